@@ -1,0 +1,5 @@
+pub mod Spelling
+pub mod Fronts
+pub mod Cutting
+pub mod Ones
+pub mod Laying

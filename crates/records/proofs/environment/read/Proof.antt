@@ -1,0 +1,89 @@
+use Rattle.bits.specs.Bits.{cut, spread}
+use lib.ListN.{length}
+use mathlib.Core.List.{List}
+use mathlib.Core.Path.{refl, _≡_}
+use Prim.Native.Nat.{ℕ}
+use borrow.Author.Tests.{eq-eqb, ne-eqb}
+use Rattle.rows.specs.Step.{said}
+use Rattle.rows.specs.Walk.{Outcome, done, refused}
+use Rattle.rows.specs.table.Environment.{environment}
+use Rattle.records.specs.Environment.{answered, environmentRead}
+use Rattle.records.proofs.Answering.{Blind, reads-done, reads-refused}
+use borrow.Author.Needs.{needs}
+use Rattle.records.proofs.environment.read.Statement.{statement}
+use Rattle.records.proofs.environment.read.Tie as tie
+use Rattle.records.proofs.environment.read.Reads as reads
+use Rattle.records.proofs.environment.read.Lts as lts
+use Rattle.bits.proofs.words.Reads as words-reads
+use Rattle.records.proofs.environment.take_fields.Reads as take-fields-reads
+use Rattle.rows.proofs.take.end.Reads as end-reads
+
+blind : Blind answered
+blind = record { same = go }
+  where
+    go : (o : Outcome (List ℕ)) → answered (said o) ≡ answered o
+    go (done vals end) = refl
+    go (refused n at i) = refl
+
+-- src/environment.rt:44:9
+returns : tie.Need-returns
+unfolding environmentRead
+returns c = rw (ne-eqb _ _ (c .if1 .taken))
+
+-- src/environment.rt:47:24
+slice-aggregate-words : tie.Need-slice-aggregate-words
+slice-aggregate-words c = search needs
+
+-- src/environment.rt:47:5
+words-requires : tie.Need-words-requires
+words-requires c κs = search needs
+
+-- src/environment.rt:48:30
+slice-aggregate-take-fields : tie.Need-slice-aggregate-take-fields
+slice-aggregate-take-fields c = search needs
+
+-- src/environment.rt:48:9
+take-fields-requires : tie.Need-take-fields-requires
+take-fields-requires c κs = search needs
+
+-- src/environment.rt:50:25
+slice-aggregate-end : tie.Need-slice-aggregate-end
+slice-aggregate-end c = search needs
+
+-- src/environment.rt:50:9
+end-requires : tie.Need-end-requires
+end-requires c κs = search needs
+
+-- src/environment.rt:52:9
+returns-2 : tie.Need-returns-2
+unfolding environmentRead
+returns-2 c = let bytes = c .before .before .before .before .before .before .before .before .before .before .before .before .args .bytes .now in
+    let whole : length bytes ≡ 29 = c .before .before .before .before .before .before .before .before .before .before .if1 .left in
+    let words = c .before .before .before .before .before .before .before .before .words2 .last .1 .0 in
+    let cuts : words ≡ cut 32 63 (length words) (spread 8 bytes) = rw (c .before .before .before .before .before .before .before .before .words2 .kept .1 .0) (c .before .before .before .before .before .before .before .before .words2 .ensures) in
+    rw (eq-eqb _ _ whole)
+    (reads-refused answered blind environment bytes _ 232 _ _ _ (rw whole) cuts (c .before .before .before .before .before .take-fields .ensures) (c .before .before .end .ensures) (c .if2 .taken))
+
+-- src/environment.rt:40:1
+returns-3 : tie.Need-returns-3
+unfolding environmentRead
+returns-3 c = let bytes = c .before .before .before .before .before .before .before .before .before .before .before .before .before .args .bytes .now in
+    let whole : length bytes ≡ 29 = c .before .before .before .before .before .before .before .before .before .before .before .if1 .left in
+    let words = c .before .before .before .before .before .before .before .before .before .words2 .last .1 .0 in
+    let cuts : words ≡ cut 32 63 (length words) (spread 8 bytes) = rw (c .before .before .before .before .before .before .before .before .before .words2 .kept .1 .0) (c .before .before .before .before .before .before .before .before .before .words2 .ensures) in
+    rw (eq-eqb _ _ whole)
+    (reads-done answered blind environment bytes _ 232 _ _ _ (rw whole) cuts (c .before .before .before .before .before .before .take-fields .ensures) (c .before .before .before .end .ensures) (c .before .if2 .left))
+
+pub read-spec : {M : Type 1} → statement M
+read-spec =
+    tie.close
+    (tie.spec
+    returns
+    slice-aggregate-words
+    words-requires
+    slice-aggregate-take-fields
+    take-fields-requires
+    slice-aggregate-end
+    end-requires
+    returns-2
+    returns-3)

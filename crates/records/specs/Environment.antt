@@ -1,0 +1,56 @@
+-- Environment as a value: named numbers, in the order of the table's slots.
+use Prim.Native.Nat.{ℕ}
+use mathlib.Core.List.{List, [], _∷_}
+use lib.Dec.{eqb}
+use lib.ListN.{length, getD}
+use Rattle.bits.specs.Bits.{spread}
+use Rattle.rows.specs.Row.{pick}
+use Rattle.rows.specs.Walk.{Outcome, done, refused, read, write}
+use Rattle.rows.specs.table.Environment.{environment}
+use Rattle.records.specs.Answer.{Written, written}
+use Rattle.records.specs.declared.environment.Environment.{Environment}
+use Rattle.records.specs.declared.environment.EnvironmentRead.{EnvironmentRead}
+use Rattle.records.specs.declared.environment.EnvironmentRead.the-variants.{Read, Refused}
+
+abbrev pub numbersOf : Environment → List ℕ
+numbersOf e =
+    e .version
+    ∷ e .bitmap
+    ∷ e .network
+    ∷ e .issuer
+    ∷ e .«end_date»
+    ∷ e .«pay_method»
+    ∷ e .authenticator
+    ∷ e .«select_list»
+    ∷ e .«data_bitmap»
+    ∷ e .«card_status»
+    ∷ []
+
+abbrev pub environmentOf : List ℕ → Environment
+environmentOf vals =
+    record {
+      version = getD vals 0 0;
+      bitmap = getD vals 1 0;
+      network = getD vals 2 0;
+      issuer = getD vals 3 0;
+      «end_date» = getD vals 4 0;
+      «pay_method» = getD vals 5 0;
+      authenticator = getD vals 6 0;
+      «select_list» = getD vals 7 0;
+      «data_bitmap» = getD vals 8 0;
+      «card_status» = getD vals 9 0;
+    }
+
+abbrev pub answered : Outcome (List ℕ) → EnvironmentRead
+answered (done vals end) = Read (environmentOf vals)
+answered (refused n at i) = Refused (record { number = n; place = at })
+
+-- A record is 29 bytes: 1 else.
+unfoldable pub environmentRead : List ℕ → EnvironmentRead
+environmentRead bytes =
+    pick (eqb (length bytes) 29) (answered (read environment (spread 8 bytes))) (Refused (record { number = 1; place = 0 }))
+
+unfoldable pub environmentWritten : List ℕ → Environment → Written
+environmentWritten before e =
+    pick (eqb (length before) 29) (written before (write environment 232 (numbersOf e)))
+    (record { answer = record { number = 1; place = 0 }; bytes = before })

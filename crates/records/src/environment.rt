@@ -1,0 +1,176 @@
+// Environment.
+ghost use mathlib.Core.Path.{_≡_};
+ghost use mathlib.Core.List.{[]};
+ghost use lib.ListN.{length};
+ghost use Rattle.rows.specs.Line.{start, Taken, Puts};
+ghost use Rattle.rows.specs.table.Environment.{environment};
+ghost use Rattle.records.specs.Environment.{environmentRead, environmentWritten, numbersOf};
+ghost use Rattle.records.specs.Answer.{Written};
+use crate::BITS;
+use crate::BYTES;
+use crate::Refusal;
+use rows::Cursor;
+use rows::When;
+use rows::put;
+use rows::take;
+
+pub struct Environment {
+    pub version: u32,
+    pub bitmap: u32,
+    pub network: u32,
+    pub issuer: u32,
+    pub end_date: u32,
+    pub pay_method: u32,
+    pub authenticator: u32,
+    pub select_list: u32,
+    pub data_bitmap: u32,
+    pub card_status: u32,
+}
+
+pub enum EnvironmentRead {
+    Read(Environment),
+    Refused(Refusal),
+}
+
+// The numbers taken, and the cursor behind the last field.
+struct Fields {
+    value: Environment,
+    last: Cursor,
+}
+
+// The Environment in a lent record.
+pub fn read(bytes: &[u8]) -> EnvironmentRead
+    ensures { λ r. ⌜ r ≡ environmentRead (now (bytes .entry)) ⌝ }
+{
+    if bytes.len() != BYTES {
+        return EnvironmentRead::Refused(Refusal {
+            number: 1,
+            place: 0,
+        });
+    }
+    let mut words = [0u64; 8];
+    bits::words(bytes, &mut words);
+    let fields = take_fields(&words);
+    let last = fields.last;
+    let end = take::end(&words, BITS, last);
+    if end.why != 0 {
+        return EnvironmentRead::Refused(Refusal {
+            number: end.why,
+            place: end.at,
+        });
+    }
+    let value = fields.value;
+    EnvironmentRead::Read(value)
+}
+
+fn take_fields(words: &[u64]) -> Fields
+    requires { ⌜ length (now words) ≡ 8 ⌝ }
+    ensures { λ r. ⌜ Taken (now (words .entry)) 232 environment [] start (numbersOf (r .value)) (r .last) ⌝ }
+{
+    let version = take::number(words, BITS, Cursor::START, When::Always, 6);
+    let bitmap = take::number(words, BITS, version, When::Always, 7);
+    let network = take::number(words, BITS, bitmap, When::Bit(bitmap.number, 0), 24);
+    let issuer = take::number(words, BITS, network, When::Bit(bitmap.number, 1), 8);
+    let end_date = take::number(words, BITS, issuer, When::Bit(bitmap.number, 2), 14);
+    let pay_method = take::number(words, BITS, end_date, When::Bit(bitmap.number, 3), 11);
+    let authenticator = take::number(words, BITS, pay_method, When::Bit(bitmap.number, 4), 16);
+    let select_list = take::number(words, BITS, authenticator, When::Bit(bitmap.number, 5), 32);
+    let data_bitmap = take::env_data(words, BITS, select_list, When::Bit(bitmap.number, 6));
+    let card_status = take::number(
+        words,
+        BITS,
+        data_bitmap,
+        When::Bit(data_bitmap.number, 0),
+        1,
+    );
+    Fields {
+        value: Environment {
+            version: version.number,
+            bitmap: bitmap.number,
+            network: network.number,
+            issuer: issuer.number,
+            end_date: end_date.number,
+            pay_method: pay_method.number,
+            authenticator: authenticator.number,
+            select_list: select_list.number,
+            data_bitmap: data_bitmap.number,
+            card_status: card_status.number,
+        },
+        last: card_status,
+    }
+}
+
+// Writes an Environment to a lent record, all of it; refused, the record is as it was.
+pub fn write(bytes: &mut [u8], e: Environment) -> Refusal
+    ensures { λ r. ⌜ record { answer = r; bytes = now (bytes .exit) } ≡ environmentWritten (now (bytes .entry)) e ⌝ }
+{
+    if bytes.len() != BYTES {
+        return Refusal {
+            number: 1,
+            place: 0,
+        };
+    }
+    let mut draft = [0u64; 9];
+    let last = put_fields(&mut draft, e);
+    put::end(&draft, last, bytes);
+    if last.why == 0 {
+        return Refusal {
+            number: 0,
+            place: 0,
+        };
+    }
+    Refusal {
+        number: last.why,
+        place: last.at,
+    }
+}
+
+fn put_fields(draft: &mut [u64], e: Environment) -> Cursor
+    requires { ⌜ length (now draft) ≡ 9 ⌝ }
+    ensures { λ d. ⌜ Puts 232 (numbersOf e) environment [] (now (draft .entry)) start (now (draft .exit)) d ⌝ }
+{
+    let version = put::number(draft, BITS, Cursor::START, When::Always, 6, e.version);
+    let bitmap = put::number(draft, BITS, version, When::Always, 7, e.bitmap);
+    let network = put::number(draft, BITS, bitmap, When::Bit(e.bitmap, 0), 24, e.network);
+    let issuer = put::number(draft, BITS, network, When::Bit(e.bitmap, 1), 8, e.issuer);
+    let end_date = put::number(draft, BITS, issuer, When::Bit(e.bitmap, 2), 14, e.end_date);
+    let pay_method = put::number(
+        draft,
+        BITS,
+        end_date,
+        When::Bit(e.bitmap, 3),
+        11,
+        e.pay_method,
+    );
+    let authenticator = put::number(
+        draft,
+        BITS,
+        pay_method,
+        When::Bit(e.bitmap, 4),
+        16,
+        e.authenticator,
+    );
+    let select_list = put::number(
+        draft,
+        BITS,
+        authenticator,
+        When::Bit(e.bitmap, 5),
+        32,
+        e.select_list,
+    );
+    let data_bitmap = put::env_data(
+        draft,
+        BITS,
+        select_list,
+        When::Bit(e.bitmap, 6),
+        e.data_bitmap,
+    );
+    put::number(
+        draft,
+        BITS,
+        data_bitmap,
+        When::Bit(e.data_bitmap, 0),
+        1,
+        e.card_status,
+    )
+}

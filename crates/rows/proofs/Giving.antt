@@ -1,0 +1,258 @@
+-- What shows that a put of a field, of whatever boxes and rule, is the step that the field's row means.
+use Prim.Native.Nat.{ℕ, zero, suc, _+_, _-_, _*_, _/_, _^_, _≤_, _<_}
+use mathlib.Core.List.{List, [], _∷_, _++_, append-nil, append-assoc}
+use mathlib.Core.Bool.{Bool, true, false, true≢false, _||_}
+use mathlib.Core.Path.{_≡_, refl, sym, ap, _∙_}
+use native.Mathlib.Omega.{arith}
+use native.Mathlib.Numerals.{add-one}
+use lib.Dec.{eqb, ltb}
+use lib.Pow.{pow-pos}
+use lib.ListN.{length, take, drop, getD, replicate, length-append, length-replicate}
+use lib.Seq.{drop-cons, take-suc, length-take-le}
+use borrow.Author.Tests.{lt-ltb, ltb-true}
+use Rattle.bits.specs.Bits.{bitsOf, cut, number}
+use Rattle.bits.proofs.Spelling.{length-bits-of, number-append, number-bits-of, bits-of-number}
+use Rattle.rows.proofs.Boxes.{length-there, laid-behind, length-laid}
+use Rattle.rows.proofs.Stepping.{Clear, admit-step, admitted-clear, admitted-within, there-one, there-same, total-same, box-width}
+use Rattle.rows.specs.Row.{pick, holds, broken}
+use Rattle.rows.specs.Walk.{total, there, exceeds, slotsOf, laidOn}
+use Rattle.rows.specs.Step.{admitted, Drafted, Gave, Lays, LaidAll}
+use Rattle.rows.specs.declared.Cursor.{Cursor}
+use Rattle.rows.specs.declared.When.{When}
+use Rattle.rows.specs.declared.Rule.{Rule}
+use Rattle.rows.specs.declared.Rule.the-variants.{Any, Tariff}
+
+-- A put is shown by what the draft holds where there is no fault.
+pub gave : (xs ys : List ℕ) (room : ℕ) (c : Cursor) (t : When) (ws : List ℕ) (rule : Rule) (vs : List ℕ) (W : ℕ) (wide : Bool) (n : ℕ) (d : Cursor)
+    → Drafted xs room c
+    → length ys ≡ length xs
+    → length vs ≡ length ws
+    → W ≡ total (there t ws)
+    → wide ≡ exceeds (there t ws) vs
+    → n ≡ broken rule vs
+    → d ≡ admitted c room W wide n 0
+    → (d .why ≡ 0 → (out : List Bool) → length out ≡ c .at → xs ≡ cut 32 32 (length xs) out → ys ≡ cut 32 32 (length xs) (laidOn out (there t ws) vs))
+    → Gave xs ys room c t ws rule vs d
+gave xs ys room c t ws rule vs W wide n d ready long sized width exceeding ruled is laid =
+    record {
+      ready = record { within = rw is (admitted-within c room W wide n 0 (ready .within)); longer = rw long (ready .longer) };
+      long = long;
+      step = λ vals k rs i seen told gives.
+          let us : slotsOf vals (c .at) (length seen) (there t ws) ≡ vs = rw (length-there t ws) gives in
+          rw (is, width)
+          (admit-step room (slotsOf vals) c t ws rule vs wide n 0 k rs i seen told
+          (ap (exceeds (there t ws)) us ∙ sym exceeding)
+          (λ inside. ap (broken rule) us ∙ sym ruled)
+          (λ inside ok. us));
+      before = λ ok. clear ok .before;
+      laid = λ ok out at drafted. (
+        rw (laid-behind out (there t ws) vs, length-append)
+            (rw (length-laid (there t ws) vs (sized ∙ sym (length-there t ws)), ← width, at) (sym (moved ok))),
+        laid ok out at drafted,
+      );
+    }
+  where
+    clear : d .why ≡ 0 → Clear c room W wide n (admitted c room W wide n 0 .at)
+    clear ok = admitted-clear c room W wide n 0 (rw is at ok)
+
+    moved : d .why ≡ 0 → d .at ≡ c .at + W
+    moved ok = ap (λ (x : Cursor). x .at) is ∙ clear ok .moved
+
+-- Numbers that were found to fit their boxes do.
+fits-cons : (w v : ℕ) (ws vs : List ℕ) → exceeds (w ∷ ws) (v ∷ vs) ≡ false → (v < 2 ^ w) × (exceeds ws vs ≡ false)
+fits-cons w v ws vs e = go (ltb v (2 ^ w)) refl e
+  where
+    go : (b : Bool) → ltb v (2 ^ w) ≡ b → pick b (exceeds ws vs) true ≡ false → (v < 2 ^ w) × (exceeds ws vs ≡ false)
+    go true e f = (ltb-true v (2 ^ w) e, f)
+    go false e f = absurd (true≢false f)
+
+-- Zero fits every box.
+box-zero : (h : ℕ) → exceeds (h ∷ []) (0 ∷ []) ≡ false
+box-zero h = rw (lt-ltb 0 (2 ^ h) (pow-pos h))
+
+pub gave-box : (xs ys : List ℕ) (room : ℕ) (c : Cursor) (t : When) (w : ℕ) (rule : Rule) (v h : ℕ) (wide : Bool) (n : ℕ) (d : Cursor)
+    → Drafted xs room c
+    → length ys ≡ length xs
+    → h ≡ pick (holds t) w 0
+    → wide ≡ exceeds (h ∷ []) (v ∷ [])
+    → n ≡ broken rule (v ∷ [])
+    → d ≡ admitted c room h wide n 0
+    → (d .why ≡ 0 → (out : List Bool) → length out ≡ c .at → xs ≡ cut 32 32 (length xs) out → ys ≡ cut 32 32 (length xs) (out ++ bitsOf h v))
+    → Gave xs ys room c t (w ∷ []) rule (v ∷ []) d
+gave-box xs ys room c t w rule v h wide n d within long here exceeding ruled is laid =
+    let boxes : there t (w ∷ []) ≡ h ∷ [] = rw (there-one t w, ← here) in
+    gave xs ys room c t (w ∷ []) rule (v ∷ []) h wide n d within long refl (rw boxes (omega arith)) (rw boxes exceeding) ruled is
+    (λ ok out at drafted. rw boxes (laid ok out at drafted))
+
+-- A field wider than its room is refused or absent.
+pub gave-never : (xs : List ℕ) (room : ℕ) (c : Cursor) (t : When) (w h : ℕ) (d : Cursor)
+    → Drafted xs room c
+    → room < w
+    → h ≡ pick (holds t) w 0
+    → d ≡ admitted c room h false 0 0
+    → Gave xs xs room c t (w ∷ []) Any (0 ∷ []) d
+gave-never xs room c t w h d within wide here is =
+    gave-box xs xs room c t w Any 0 h false 0 d within refl here (sym (box-zero h)) refl is
+    (λ ok out at drafted. rw (absent (holds t) here (admitted-clear c room h false 0 0 (rw is at ok) .inside), append-nil) drafted)
+  where
+    absent : (b : Bool) → h ≡ pick b w 0 → c .at + h ≤ room → h ≡ 0
+    absent true e inside = absurd (omega arith)
+    absent false e inside = e
+
+-- Where there is no fault, a box can be laid.
+pub lays : (xs : List ℕ) (room : ℕ) (c : Cursor) (h v : ℕ) (wide : Bool) (n : ℕ) (d : Cursor)
+    → Drafted xs room c
+    → h ≤ 32
+    → wide ≡ exceeds (h ∷ []) (v ∷ [])
+    → d ≡ admitted c room h wide n 0
+    → d .why ≡ 0
+    → (c .at / 32 + 1 < length xs) × ((h ≤ 32) × (v < 2 ^ h))
+lays xs room c h v wide n d ready narrow exceeding is ok =
+    let clear = admitted-clear c room h wide n 0 (rw is at ok) in
+    (omega (arith, ready .within, ready .longer), (narrow, fits-cons h v [] [] (sym exceeding ∙ clear .narrow) .0))
+
+-- A tariff's numbers that fit their boxes, in the h bits that it has on the card, and the one number that they make.
+pub record Packs (h key kind priority : ℕ) : Type 0 where
+  pub small : (key < 16) × ((kind < 256) × (priority < 16))
+  pub whole : key * 4096 + kind * 16 + priority < 2 ^ h
+  pub spelt : bitsOf h (key * 4096 + kind * 16 + priority) ≡ bitsOf (h / 4) key ++ (bitsOf (h / 2) kind ++ bitsOf (h / 4) priority)
+
+packs : (t : When) (h key kind priority : ℕ)
+    → h ≡ pick (holds t) 16 0
+    → exceeds (h / 4 ∷ h / 2 ∷ h / 4 ∷ []) (key ∷ kind ∷ priority ∷ []) ≡ false
+    → Packs h key kind priority
+packs t h key kind priority here fits =
+    let one = fits-cons (h / 4) key (h / 2 ∷ h / 4 ∷ []) (kind ∷ priority ∷ []) fits in
+    let two = fits-cons (h / 2) kind (h / 4 ∷ []) (priority ∷ []) (one .1) in
+    let three = fits-cons (h / 4) priority [] [] (two .1) in
+    go (holds t) h here (one .0) (two .0) (three .0)
+  where
+    bits : List Bool
+    bits = bitsOf 4 key ++ (bitsOf 8 kind ++ bitsOf 4 priority)
+
+    go : (b : Bool) (h : ℕ) → h ≡ pick b 16 0 → key < 2 ^ (h / 4) → kind < 2 ^ (h / 2) → priority < 2 ^ (h / 4) → Packs h key kind priority
+    go true h e one two three =
+        let a : key < 16 = rw e at one in
+        let b : kind < 256 = rw e at two in
+        let d : priority < 16 = rw e at three in
+        let makes : number bits ≡ key * 4096 + kind * 16 + priority =
+        number-append (bitsOf 4 key) (bitsOf 8 kind ++ bitsOf 4 priority)
+        ∙ rw (number-append (bitsOf 8 kind) (bitsOf 4 priority), number-bits-of 4 key a, number-bits-of 8 kind b, number-bits-of 4 priority d) (omega arith) in
+        rw e (record { small = (a, (b, d)); whole = omega arith; spelt = ap (bitsOf 16) (sym makes) ∙ bits-of-number bits })
+    go false h e one two three =
+        let a : key < 1 = rw e at one in
+        let b : kind < 1 = rw e at two in
+        let d : priority < 1 = rw e at three in
+        rw e (record { small = (omega arith, (omega arith, omega arith)); whole = omega arith; spelt = refl })
+
+-- Where there is no fault, a tariff can be packed and laid.
+pub packs-clear : (room : ℕ) (c : Cursor) (t : When) (key kind priority h : ℕ) (wide : Bool) (n : ℕ) (d : Cursor)
+    → h ≡ pick (holds t) 16 0
+    → wide ≡ exceeds (h / 4 ∷ h / 2 ∷ h / 4 ∷ []) (key ∷ kind ∷ priority ∷ [])
+    → d ≡ admitted c room h wide n 0
+    → d .why ≡ 0
+    → Packs h key kind priority
+packs-clear room c t key kind priority h wide n d here exceeding is ok =
+    packs t h key kind priority here (sym exceeding ∙ admitted-clear c room h wide n 0 (rw is at ok) .narrow)
+
+pub gave-tariff : (xs ys : List ℕ) (room : ℕ) (c : Cursor) (t : When) (key kind priority h : ℕ) (wide : Bool) (n : ℕ) (d : Cursor)
+    → Drafted xs room c
+    → length ys ≡ length xs
+    → h ≡ pick (holds t) 16 0
+    → wide ≡ exceeds (h / 4 ∷ h / 2 ∷ h / 4 ∷ []) (key ∷ kind ∷ priority ∷ [])
+    → n ≡ pick (eqb priority 13) 4 0
+    → d ≡ admitted c room h wide n 0
+    → (d .why ≡ 0 → (out : List Bool) → length out ≡ c .at → xs ≡ cut 32 32 (length xs) out → ys ≡ cut 32 32 (length xs) (out ++ bitsOf h (key * 4096 + kind * 16 + priority)))
+    → Gave xs ys room c t (4 ∷ 8 ∷ 4 ∷ []) Tariff (key ∷ kind ∷ priority ∷ []) d
+gave-tariff xs ys room c t key kind priority h wide n d within long here exceeding ruled is laid =
+    let boxes : there t (4 ∷ 8 ∷ 4 ∷ []) ≡ h / 4 ∷ h / 2 ∷ h / 4 ∷ [] = rw here (parts (holds t)) in
+    gave xs ys room c t (4 ∷ 8 ∷ 4 ∷ []) Tariff (key ∷ kind ∷ priority ∷ []) h wide n d within long refl
+    (rw boxes (sums (holds t) h here)) (rw boxes exceeding) ruled is
+    (λ ok out at drafted.
+    rw boxes (simp (append-assoc, sym (packs-clear room c t key kind priority h wide n d here exceeding is ok .spelt)) (laid ok out at drafted)))
+  where
+    parts : (b : Bool) → pick b (4 ∷ 8 ∷ 4 ∷ []) (0 ∷ 0 ∷ 0 ∷ []) ≡ pick b 16 0 / 4 ∷ pick b 16 0 / 2 ∷ pick b 16 0 / 4 ∷ []
+    parts true = refl
+    parts false = refl
+
+    sums : (b : Bool) (h : ℕ) → h ≡ pick b 16 0 → h ≡ h / 4 + (h / 2 + (h / 4 + 0))
+    sums true h e = rw e
+    sums false h e = rw e
+
+-- Letters from i on: the first is too wide, or one behind it.
+pub any-more : (w : ℕ) (letters : List ℕ) (i : ℕ) (wide : Bool)
+    → i < length letters
+    → wide ≡ exceeds (w ∷ []) (getD letters i 0 ∷ [])
+    → exceeds (replicate (length letters) w) letters ≡ exceeds (replicate (length letters - i) w) (drop i letters)
+    → exceeds (replicate (length letters) w) letters ≡ wide || exceeds (replicate (length letters - (i + 1)) w) (drop (i + 1) letters)
+any-more w letters i wide h one so =
+    let left : length letters - i ≡ suc (length letters - (i + 1)) = omega arith in
+    so ∙ rw (left, drop-cons letters i 0 h, ← add-one i, one) (go (ltb (getD letters i 0) (2 ^ w)) _)
+  where
+    go : (a b : Bool) → pick a b true ≡ pick a false true || b
+    go true b = refl
+    go false b = refl
+
+-- A letter of those that were found to fit does.
+pub fits-at : (w : ℕ) (letters : List ℕ) (i : ℕ) → exceeds (replicate (length letters) w) letters ≡ false → i < length letters → getD letters i 0 < 2 ^ w
+fits-at w [] i e h = absurd (omega arith)
+fits-at w (v ∷ vs) zero e h = fits-cons w v (replicate (length vs) w) vs e .0
+fits-at w (v ∷ vs) (suc i) e h = fits-at w vs i (fits-cons w v (replicate (length vs) w) vs e .1) (omega arith)
+
+-- Letters laid behind some bits: one more at their end, and how far they reach.
+laid-snoc : (out : List Bool) (w : ℕ) (vs : List ℕ) (v : ℕ)
+    → laidOn out (replicate (length (vs ++ (v ∷ []))) w) (vs ++ (v ∷ [])) ≡ laidOn out (replicate (length vs) w) vs ++ bitsOf w v
+laid-snoc out w [] v = refl
+laid-snoc out w (u ∷ vs) v = laid-snoc (out ++ bitsOf w u) w vs v
+
+length-letters : (out : List Bool) (w : ℕ) (vs : List ℕ) → length (laidOn out (replicate (length vs) w) vs) ≡ length out + w * length vs
+length-letters out w [] = omega arith
+length-letters out w (v ∷ vs) =
+    rw (length-letters (out ++ bitsOf w v) w vs, length-append, length-bits-of) (omega arith)
+
+-- One more letter.
+pub laid-more : (xs ys zs : List ℕ) (at w : ℕ) (letters : List ℕ) (i place : ℕ)
+    → i < length letters
+    → length ys ≡ length xs
+    → place ≡ at + w * i
+    → LaidAll xs ys at w (take i letters)
+    → ((out : List Bool) → length out ≡ place → ys ≡ cut 32 32 (length ys) out → zs ≡ cut 32 32 (length ys) (out ++ bitsOf w (getD letters i 0)))
+    → LaidAll xs zs at w (take (i + 1) letters)
+laid-more xs ys zs at w letters i place h long here so lay = λ out start drafted.
+    let reached : length (laidOn out (replicate (length (take i letters)) w) (take i letters)) ≡ place =
+    length-letters out w (take i letters) ∙ rw (length-take-le i letters (omega arith), start) (sym here) in
+    rw (add-one, take-suc letters i 0 h, laid-snoc out w (take i letters) (getD letters i 0), ← long)
+    (lay (laidOn out (replicate (length (take i letters)) w) (take i letters)) reached (rw long (so out start drafted)))
+
+pub gave-text : (xs ys : List ℕ) (room : ℕ) (c : Cursor) (t : When) (letters : List ℕ) (h : ℕ) (wide : Bool) (d : Cursor)
+    → Drafted xs room c
+    → length ys ≡ length xs
+    → h ≡ pick (holds t) 5 0
+    → wide ≡ exceeds (replicate (length letters) h) letters
+    → d ≡ admitted c room (length letters * h) wide 0 0
+    → (d .why ≡ 0 → LaidAll xs ys (c .at) h letters)
+    → Gave xs ys room c t (replicate (length letters) 5) Any letters d
+gave-text xs ys room c t letters h wide d within long here exceeding is laid =
+    let n : ℕ = length letters in
+    let boxes : there t (replicate n 5) ≡ replicate n h = rw (there-same t n 5, ← here) in
+    gave xs ys room c t (replicate n 5) Any letters (n * h) wide 0 d within long (sym (length-replicate n 5))
+    (rw boxes (sym (total-same n h))) (rw boxes exceeding) refl is
+    (λ ok out at drafted. rw boxes (laid ok out at drafted))
+
+-- Where there is no fault, letters can be laid.
+pub lays-all : (xs : List ℕ) (room : ℕ) (c : Cursor) (t : When) (letters : List ℕ) (h : ℕ) (wide : Bool) (d : Cursor)
+    → Drafted xs room c
+    → room < 2 ^ 32
+    → h ≡ pick (holds t) 5 0
+    → wide ≡ exceeds (replicate (length letters) h) letters
+    → d ≡ admitted c room (length letters * h) wide 0 0
+    → d .why ≡ 0
+    → Lays xs (c .at) h letters
+lays-all xs room c t letters h wide d ready fits here exceeding is ok =
+    let clear = admitted-clear c room (length letters * h) wide 0 0 (rw is at ok) in
+    record {
+      narrow = box-width t 5 h 32 here (omega arith);
+      longer = omega (arith, ready .longer, clear .inside);
+      small = omega (arith, clear .inside);
+      fit = sym exceeding ∙ clear .narrow;
+    }

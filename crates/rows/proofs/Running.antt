@@ -1,0 +1,123 @@
+-- A straight line of takes is a reading, and one of puts a writing. A reader's or writer's proof lists its steps, a line a
+-- row; the laws here take that list to the meaning of the table.
+use Prim.Native.Nat.{ℕ, suc, _+_, _-_}
+use mathlib.Core.List.{List, [], _∷_, _++_, append-nil, append-assoc}
+use mathlib.Core.Bool.{Bool, true, false}
+use mathlib.Core.Path.{_≡_, refl, sym, ap, _∙_}
+use native.Mathlib.Omega.{arith}
+use lib.Dec.{eqb}
+use lib.ListN.{length, take, drop, length-append, length-drop, take-append-drop}
+use lib.Seq.{drop-append-seam, length-take-le}
+use borrow.Author.Tests.{eqb-true}
+use Rattle.bits.specs.Bits.{cut, zeros, leading}
+use Rattle.rows.specs.Row.{Row, pick, told}
+use Rattle.rows.specs.Walk.{Outcome, done, refused, andThen, walk, boxesOf, boxesAt, slotsOf, frameOn, frame, laidOn, slots, ending, read, write}
+use Rattle.rows.specs.Step.{said, resume, Ended}
+use Rattle.rows.specs.Line.{start, Takes, Puts, tells}
+use Rattle.rows.specs.declared.Cursor.{Cursor}
+use Rattle.rows.proofs.Boxes.{length-there, laid-append}
+
+said-then : {A B : Type 0} (o : Outcome A) (f : A → ℕ → Outcome B) → ((a : A) (end : ℕ) → said (f a end) ≡ f a end)
+    → said (andThen o f) ≡ andThen (said o) f
+said-then (done a end) f same = same a end
+said-then (refused n at i) f same = refl
+
+said-ending : (bs : List Bool) (vals : List ℕ) (at : ℕ) → said (ending bs vals at) ≡ ending bs vals at
+unfolding ending
+said-ending bs vals at = go (eqb (at + leading (drop at bs)) (length bs))
+  where
+    go : (b : Bool) → said (pick b (done vals at) (refused 5 (at + leading (drop at bs)) 0)) ≡ pick b (done vals at) (refused 5 (at + leading (drop at bs)) 0)
+    go true = refl
+    go false = refl
+
+module _ (words : List ℕ) (end : ℕ) (bs : List Bool) (long : length bs ≡ end) (cuts : words ≡ cut 32 63 (length words) bs) where
+  takes-run : (rows : List Row) (i : ℕ) (seen : List ℕ) (c : Cursor) (all : List ℕ) (d : Cursor)
+      → Takes words end rows seen c all d
+      → resume end (boxesAt bs) rows i seen c ≡ resume end (boxesAt bs) [] 0 all d
+  unfolding Takes resume
+  takes-run [] i seen c all d (same, here) = rw (same, here)
+  takes-run (r ∷ rs) i seen c all d (vs, e, took, rest) =
+      took .step bs long cuts (r .cond) rs i seen refl ∙ takes-run rs (suc i) (seen ++ vs) e all d rest
+
+  -- A whole reading.
+  pub takes-read : (rows : List Row) (all : List ℕ) (d e : Cursor)
+      → Takes words end rows [] start all d
+      → Ended words end d e
+      → said (read rows bs) ≡ tells e all
+  unfolding read resume
+  takes-read rows all d e taken ended =
+      let steps : said (walk (length bs) (boxesAt bs) rows 0 [] 0) ≡ resume end (boxesAt bs) [] 0 all d =
+      rw long (takes-run rows 0 [] start all d taken) in
+      said-then (walk (length bs) (boxesAt bs) rows 0 [] 0) (ending bs) (said-ending bs)
+      ∙ ap (λ (o : Outcome (List ℕ)). andThen o (ending bs)) steps
+      ∙ ended .says bs long cuts 0 all
+
+module _ (room : ℕ) where
+  -- What the numbers put come to, and the draft where there was no fault.
+  pub record Ran (vals : List ℕ) (rows : List Row) (i : ℕ) (seen rest xs : List ℕ) (c : Cursor) (ys : List ℕ) (d : Cursor) : Type 0 where
+    pub comes : resume room (slotsOf vals) rows i seen c ≡ resume room (slotsOf vals) [] 0 vals d
+    pub before : d .why ≡ 0 → c .why ≡ 0
+    pub laid :
+        d .why ≡ 0
+        → (out : List Bool)
+        → length out ≡ c .at
+        → xs ≡ cut 32 32 (length xs) out
+        → (length (laidOn out (frameOn rows seen rest) rest) ≡ d .at)
+        × (ys ≡ cut 32 32 (length xs) (laidOn out (frameOn rows seen rest) rest))
+
+  puts-run : (vals : List ℕ) (rows : List Row) (i : ℕ) (seen rest xs : List ℕ) (c : Cursor) (ys : List ℕ) (d : Cursor)
+      → vals ≡ seen ++ rest
+      → length rest ≡ slots rows
+      → Puts room vals rows seen xs c ys d
+      → Ran vals rows i seen rest xs c ys d
+  unfolding Puts resume
+  puts-run vals [] i seen [] xs c ys d parts sized (same, here) =
+      record {
+        comes = rw (here, parts, append-nil);
+        before = λ ok. rw here ok;
+        laid = λ ok out at drafted. (rw (← here) at, rw (← same) drafted);
+      }
+  puts-run vals [] i seen (v ∷ rest) xs c ys d parts sized nil = absurd (omega arith)
+  puts-run vals (r ∷ rs) i seen rest xs c ys d parts sized (vs, zs, e, gave, these, others) =
+      let k : ℕ = length (r .boxes) in
+      let own : take k rest ≡ vs = rw (parts, drop-append-seam seen rest) at these in
+      let along : Ran vals rs (suc i) (seen ++ vs) (drop k rest) zs e ys d =
+      puts-run vals rs (suc i) (seen ++ vs) (drop k rest) zs e ys d
+      (parts ∙ rw (← own) (rw (append-assoc, take-append-drop k rest)))
+      (rw (length-drop k rest) (omega arith))
+      others in
+      record {
+        comes = gave .step vals (r .cond) rs i seen refl these ∙ along .comes;
+        before = λ ok. gave .before (along .before ok);
+        laid = λ ok out at drafted.
+            let one = gave .laid (along .before ok) out at drafted in
+            let two = along .laid ok (laidOn out (boxesOf r seen) vs) (one .0) (rw (gave .long) (one .1)) in
+            let whole : laidOn out (frameOn (r ∷ rs) seen rest) rest ≡ laidOn (laidOn out (boxesOf r seen) vs) (frameOn rs (seen ++ vs) (drop k rest)) (drop k rest) =
+            laid-append out (boxesOf r seen) (frameOn rs (seen ++ take k rest) (drop k rest)) rest
+            ∙ rw (length-there (told (r .cond) seen) (r .boxes), own) in
+            rw whole (two .0, rw (gave .long) at (two .1));
+      }
+
+  -- A whole writing: what it comes to, and the draft where there was no fault.
+  pub puts-write : (rows : List Row) (vals xs ys : List ℕ) (d : Cursor)
+      → length vals ≡ slots rows
+      → xs ≡ cut 32 32 (length xs) []
+      → Puts room vals rows [] xs start ys d
+      → (said (write rows room vals) ≡ tells d (laidOn [] (frame rows vals) vals ++ zeros (room - d .at)))
+      × (d .why ≡ 0 → ys ≡ cut 32 32 (length xs) (laidOn [] (frame rows vals) vals))
+  unfolding write frame resume
+  puts-write rows vals xs ys d sized empty puts =
+      let ran = puts-run vals rows 0 [] vals xs start ys d refl sized puts in
+      let bits : List Bool = laidOn [] (frameOn rows [] vals) vals in
+      let steps : said (walk room (slotsOf vals) rows 0 [] 0) ≡ tells d vals = ran .comes in (
+        said-then (walk room (slotsOf vals) rows 0 [] 0) (λ all end. done (bits ++ zeros (room - end)) end) (λ all end. refl)
+            ∙ ap (λ (o : Outcome (List ℕ)). andThen o (λ all end. done (bits ++ zeros (room - end)) end)) steps
+            ∙ go (eqb (d .why) 0),
+        λ ok. ran .laid ok [] refl empty .1,
+      )
+    where
+      go : (b : Bool)
+          → andThen (pick b (done vals (d .at)) (refused (d .why) (d .at) 0)) (λ all end. done (laidOn [] (frameOn rows [] vals) vals ++ zeros (room - end)) end)
+          ≡ pick b (done (laidOn [] (frameOn rows [] vals) vals ++ zeros (room - d .at)) (d .at)) (refused (d .why) (d .at) 0)
+      go true = refl
+      go false = refl

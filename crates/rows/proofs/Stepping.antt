@@ -1,0 +1,149 @@
+-- One step of a walk in code is one step of its meaning: what `admit` makes of a cursor stands for the same answer.
+use Prim.Native.Nat.{ℕ, suc, _+_, _≤_, zero, _*_}
+use mathlib.Core.List.{List, [], _∷_, _++_, map}
+use mathlib.Core.Bool.{Bool, true, false}
+use mathlib.Core.Path.{_≡_, refl, sym, ap, _∙_}
+use native.Mathlib.Omega.{arith}
+use lib.Dec.{eqb, ltb}
+use lib.ListN.{length, replicate}
+use borrow.Author.Tests.{ltb-false, eqb-true, eqb-false}
+use Rattle.rows.specs.Row.{Row, Cond, pick, told, holds, broken}
+use Rattle.rows.specs.Walk.{Outcome, done, refused, andThen, Source, walk, field, total, there, exceeds, fault}
+use Rattle.rows.specs.Step.{settled, admitted, said, resume}
+use Rattle.rows.specs.declared.Cursor.{Cursor}
+use Rattle.rows.specs.declared.When.{When}
+use Rattle.rows.specs.declared.Rule.{Rule}
+
+module _ (room : ℕ) (from : Source) (rs : List Row) (i : ℕ) (seen : List ℕ) (at v : ℕ) where
+  -- One field's outcome, and the cursor that stands for it. The numbers count only where there is no fault.
+  settled-fault : (W n : ℕ) (us vs : List ℕ) (b : Bool) → eqb n 0 ≡ b → (b ≡ true → us ≡ vs)
+      → said (andThen (pick b (done us (at + W)) (refused n at i)) (λ us end. walk room from rs (suc i) (seen ++ us) end))
+      ≡ resume room from rs (suc i) (seen ++ vs) (pick b (record { at = at + W; why = 0; number = v }) (record { at = at; why = n; number = v }))
+  unfolding resume
+  settled-fault W n us vs true e same = rw (same refl)
+  settled-fault W n us vs false e same = rw e
+
+  settled-step : (W : ℕ) (us vs : List ℕ) (wide past : Bool) (m n : ℕ)
+      → (wide ≡ false → past ≡ false → m ≡ n)
+      → (wide ≡ false → past ≡ false → n ≡ 0 → us ≡ vs)
+      → said (andThen (pick (eqb (pick wide 7 (pick past 2 m)) 0) (done us (at + W)) (refused (pick wide 7 (pick past 2 m)) at i)) (λ us end. walk room from rs (suc i) (seen ++ us) end))
+      ≡ resume room from rs (suc i) (seen ++ vs) (settled at W (pick wide 7 (pick past 2 n)) v)
+  settled-step W us vs true past m n ruled same = settled-fault W 7 us vs false refl (λ e. cc)
+  settled-step W us vs false true m n ruled same = settled-fault W 2 us vs false refl (λ e. cc)
+  settled-step W us vs false false m n ruled same =
+      rw (ruled refl refl) (settled-fault W n us vs (eqb n 0) refl (λ e. same refl refl (eqb-true n 0 e)))
+
+-- What the source gives need agree with the code's numbers only where they count: the rule where the field has room, the
+-- numbers where it has no fault.
+pub admit-step : (room : ℕ) (from : Source) (c : Cursor) (t : When) (ws : List ℕ) (rule : Rule) (vs : List ℕ) (wide : Bool) (n v : ℕ)
+    (k : Cond) (rs : List Row) (i : ℕ) (seen : List ℕ)
+    → told k seen ≡ t
+    → exceeds (there t ws) (from (c .at) (length seen) (there t ws)) ≡ wide
+    → (c .at + total (there t ws) ≤ room → broken rule (from (c .at) (length seen) (there t ws)) ≡ n)
+    → (c .at + total (there t ws) ≤ room → admitted c room (total (there t ws)) wide n v .why ≡ 0 → from (c .at) (length seen) (there t ws) ≡ vs)
+    → resume room from (record { boxes = ws; cond = k; rule = rule } ∷ rs) i seen c
+    ≡ resume room from rs (suc i) (seen ++ vs) (admitted c room (total (there t ws)) wide n v)
+unfolding resume field
+admit-step room from c t ws rule vs wide n v k rs i seen e w ruled same = go (eqb (c .why) 0) refl
+  where
+    us : List ℕ
+    us = from (c .at) (length seen) (there t ws)
+
+    W : ℕ
+    W = total (there t ws)
+
+    clear : eqb (c .why) 0 ≡ true → wide ≡ false → ltb room (c .at + W) ≡ false → n ≡ 0 → admitted c room W wide n v .why ≡ 0
+    clear h x p z = rw (h, x, p, z)
+
+    go : (b : Bool) → eqb (c .why) 0 ≡ b
+        → pick b (said (walk room from (record { boxes = ws; cond = k; rule = rule } ∷ rs) i seen (c .at))) (refused (c .why) (c .at) 0)
+        ≡ resume room from rs (suc i) (seen ++ vs) (pick b (settled (c .at) W (fault wide (c .at + W) room n) v) (record { at = c .at; why = c .why; number = v }))
+    go false h = rw h
+    go true h =
+        rw (e, w)
+        (settled-step room from rs i seen (c .at) v W us vs wide (ltb room (c .at + W)) (broken rule us) n
+        (λ x p. ruled (ltb-false _ _ p))
+        (λ x p z. same (ltb-false _ _ p) (clear h x p z)))
+
+-- What a field without a fault tells.
+pub record Clear (c : Cursor) (room W : ℕ) (wide : Bool) (n at : ℕ) : Type 0 where
+  pub before : c .why ≡ 0
+  pub narrow : wide ≡ false
+  pub inside : c .at + W ≤ room
+  pub kept : n ≡ 0
+  pub moved : at ≡ c .at + W
+
+pub admitted-clear : (c : Cursor) (room W : ℕ) (wide : Bool) (n v : ℕ)
+    → admitted c room W wide n v .why ≡ 0
+    → Clear c room W wide n (admitted c room W wide n v .at)
+admitted-clear c room W wide n v = go (eqb (c .why) 0) wide (ltb room (c .at + W)) refl refl
+  where
+    last : (z : Bool) → eqb n 0 ≡ z → c .why ≡ 0 → c .at + W ≤ room
+        → (pick {A = Cursor} z (record { at = c .at + W; why = 0; number = v }) (record { at = c .at; why = n; number = v })) .why ≡ 0
+        → Clear c room W false n ((pick {A = Cursor} z (record { at = c .at + W; why = 0; number = v }) (record { at = c .at; why = n; number = v })) .at)
+    last true e before inside h = record { before = before; narrow = refl; inside = inside; kept = eqb-true n 0 e; moved = refl }
+    last false e before inside h = absurd (eqb-false n 0 e h)
+
+    go : (b wide past : Bool) → eqb (c .why) 0 ≡ b → ltb room (c .at + W) ≡ past
+        → (pick b (settled (c .at) W (pick wide 7 (pick past 2 n)) v) (record { at = c .at; why = c .why; number = v })) .why ≡ 0
+        → Clear c room W wide n ((pick b (settled (c .at) W (pick wide 7 (pick past 2 n)) v) (record { at = c .at; why = c .why; number = v })) .at)
+    go false wide past e p h = absurd (eqb-false _ _ e h)
+    go true true past e p h = absurd (omega arith)
+    go true false true e p h = absurd (omega arith)
+    go true false false e p h = last (eqb n 0) refl (eqb-true _ _ e) (ltb-false _ _ p) h
+
+-- A field is not passed by the end of its room.
+pub admitted-within : (c : Cursor) (room W : ℕ) (wide : Bool) (n v : ℕ) → c .at ≤ room → admitted c room W wide n v .at ≤ room
+admitted-within c room W wide n v h = go (eqb (c .why) 0) wide (ltb room (c .at + W)) refl
+  where
+    last : (m : ℕ) (b : Bool) → c .at + W ≤ room → pick {A = Cursor} b (record { at = c .at + W; why = 0; number = v }) (record { at = c .at; why = m; number = v }) .at ≤ room
+    last m true l = l
+    last m false l = h
+
+    go : (b wide past : Bool) → ltb room (c .at + W) ≡ past
+        → pick b (settled (c .at) W (pick wide 7 (pick past 2 n)) v) (record { at = c .at; why = c .why; number = v }) .at ≤ room
+    go false wide past e = h
+    go true true past e = h
+    go true false true e = h
+    go true false false e = last n (eqb n 0) (ltb-false _ _ e)
+
+-- The number goes through as it is.
+pub admitted-number : (c : Cursor) (room W : ℕ) (wide : Bool) (n v : ℕ) → admitted c room W wide n v .number ≡ v
+admitted-number c room W wide n v = go (eqb (c .why) 0) (eqb (fault wide (c .at + W) room n) 0)
+  where
+    m : ℕ
+    m = fault wide (c .at + W) room n
+
+    go : (a b : Bool) → pick {A = Cursor} a (pick b (record { at = c .at + W; why = 0; number = v }) (record { at = c .at; why = m; number = v })) (record { at = c .at; why = c .why; number = v }) .number ≡ v
+    go false b = refl
+    go true false = refl
+    go true true = refl
+
+-- One box, on the card and in its table.
+pub there-one : (t : When) (w : ℕ) → there t (w ∷ []) ≡ pick (holds t) w 0 ∷ []
+there-one t w = go (holds t)
+  where
+    go : (b : Bool) → pick b (w ∷ []) (0 ∷ []) ≡ pick b w 0 ∷ []
+    go true = refl
+    go false = refl
+
+-- A box is no wider on the card than in its table.
+pub box-width : (t : When) (w h m : ℕ) → h ≡ pick (holds t) w 0 → w ≤ m → h ≤ m
+box-width t w h m here narrow = rw here (go (holds t))
+  where
+    go : (b : Bool) → pick b w 0 ≤ m
+    go true = narrow
+    go false = omega arith
+
+-- Boxes of one width, on the card and in their table.
+pub there-same : (t : When) (n w : ℕ) → there t (replicate n w) ≡ replicate n (pick (holds t) w 0)
+there-same t n w = go (holds t) n
+  where
+    go : (b : Bool) (n : ℕ) → pick b (replicate n w) (map (λ (x : ℕ). 0) (replicate n w)) ≡ replicate n (pick b w 0)
+    go true n = refl
+    go false zero = refl
+    go false (suc n) = ap (λ (l : List ℕ). 0 ∷ l) (go false n)
+
+pub total-same : (n w : ℕ) → total (replicate n w) ≡ n * w
+total-same zero w = omega arith
+total-same (suc n) w = let rest = total-same n w in omega arith

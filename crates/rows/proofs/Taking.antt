@@ -1,0 +1,215 @@
+-- What shows that a take of a field, of whatever boxes and rule, is the step that the field's row means.
+use Prim.Native.Nat.{ℕ, zero, suc, _+_, _-_, _*_, _/_, _%_, _^_, _≤_, _<_}
+use mathlib.Core.List.{List, [], _∷_, _++_, map, append-assoc}
+use mathlib.Core.Bool.{Bool, true, false}
+use mathlib.Core.Path.{_≡_, refl, sym, ap, subst, _∙_}
+use native.Mathlib.Omega.{arith}
+use native.Mathlib.Nat.{lt-of-lt-of-le}
+use native.Mathlib.Numerals.{add-one}
+use lib.Dec.{eqb, ltb}
+use lib.Pow.{pow-mono}
+use lib.ListN.{length, take, drop, set, replicate, length-take, length-drop, take-append-drop}
+use lib.Seq.{length-take-le, drop-append-le, take-append-le, drop-drop, take-suc-set}
+use borrow.Author.Tests.{ltb-false, lt-ltb, eq-eqb, ne-eqb}
+use Rattle.bits.specs.Bits.{number, numberAt, cut, leading}
+use Rattle.bits.proofs.Spelling.{number-lt}
+use Rattle.bits.proofs.Cutting.{number-at}
+use Rattle.bits.proofs.Fronts.{part, part-part, part-take}
+use Rattle.rows.proofs.Boxes.{numbers-fit}
+use Rattle.rows.proofs.Stepping.{admit-step, admitted-clear, admitted-within, admitted-number, there-one, there-same, total-same, box-width}
+use Rattle.rows.specs.Row.{Row, Cond, pick, told, holds, broken}
+use Rattle.rows.specs.Walk.{Source, total, there, exceeds, fault, numbers, boxesAt, ending}
+use Rattle.rows.specs.Step.{settled, admitted, resume, Ready, Took, Ended, Spells, lettersAt}
+use Rattle.rows.specs.declared.Cursor.{Cursor}
+use Rattle.rows.specs.declared.When.{When}
+use Rattle.rows.specs.declared.Rule.{Rule}
+use Rattle.rows.specs.declared.Rule.the-variants.{Any, Tariff}
+
+-- A take is shown by what its words hold: the rule's refusal where the field has room, its numbers where it has no fault.
+pub took : (words : List ℕ) (end : ℕ) (c : Cursor) (t : When) (ws : List ℕ) (rule : Rule) (vs : List ℕ) (W n v : ℕ) (d : Cursor)
+    → Ready words end c
+    → W ≡ total (there t ws)
+    → ((bs : List Bool) → length bs ≡ end → words ≡ cut 32 63 (length words) bs → c .at + W ≤ end
+    → (broken rule (numbers (there t ws) (drop (c .at) bs)) ≡ n) × (d .why ≡ 0 → numbers (there t ws) (drop (c .at) bs) ≡ vs))
+    → d ≡ admitted c end W false n v
+    → Took words end c t ws rule vs d
+took words end c t ws rule vs W n v d ready width holds is =
+    record {
+      ready = record { within = rw is (admitted-within c end W false n v (ready .within)); covered = ready .covered };
+      step = λ bs long cuts k rs i seen told.
+          rw (is, width)
+          (admit-step end (boxesAt bs) c t ws rule vs false n v k rs i seen told (numbers-fit (there t ws) (drop (c .at) bs))
+          (λ room. holds bs long cuts (rw width room) .0)
+          (λ room ok. holds bs long cuts (rw width room) .1 (rw (is, width) ok)));
+    }
+
+-- What is read from the words is what the bits hold.
+held : (words : List ℕ) (end : ℕ) (c : Cursor) (h v : ℕ) (bs : List Bool)
+    → Ready words end c
+    → h ≤ 32
+    → v ≡ numberAt words (c .at) h
+    → length bs ≡ end
+    → words ≡ cut 32 63 (length words) bs
+    → c .at + h ≤ end
+    → v ≡ number (take h (drop (c .at) bs))
+held words end c h v bs ready narrow reads long cuts room =
+    let covered : c .at / 32 < length words = omega (arith, ready .within, ready .covered) in
+    reads ∙ rw cuts (number-at (length words) bs (c .at) h covered narrow (rw long room))
+
+pub took-box : (words : List ℕ) (end : ℕ) (c : Cursor) (t : When) (w : ℕ) (rule : Rule) (h v n : ℕ) (d : Cursor)
+    → Ready words end c
+    → w ≤ 32
+    → h ≡ pick (holds t) w 0
+    → v ≡ numberAt words (c .at) h
+    → n ≡ broken rule (v ∷ [])
+    → d ≡ admitted c end h false n v
+    → Took words end c t (w ∷ []) rule (d .number ∷ []) d
+took-box words end c t w rule h v n d ready narrow here reads ruled is =
+    let gave : d .number ≡ v = ap (λ (x : Cursor). x .number) is ∙ admitted-number c end h false n v in
+    subst (λ (x : ℕ). Took words end c t (w ∷ []) rule (x ∷ []) d) (sym gave)
+    (took words end c t (w ∷ []) rule (v ∷ []) h n v d ready
+    (rw (there-one t w, ← here) (omega arith))
+    (λ bs long cuts room.
+    let gives : numbers (there t (w ∷ [])) (drop (c .at) bs) ≡ v ∷ [] =
+    rw (there-one t w, ← here, ← (held words end c h v bs ready (box-width t w h 32 here narrow) reads long cuts room)) in
+    (ap (broken rule) gives ∙ sym ruled, λ _. gives))
+    is)
+
+-- A field wider than its room is refused or absent.
+pub took-never : (words : List ℕ) (end : ℕ) (c : Cursor) (t : When) (w h : ℕ) (d : Cursor)
+    → Ready words end c
+    → end < w
+    → h ≡ pick (holds t) w 0
+    → d ≡ admitted c end h false 0 0
+    → Took words end c t (w ∷ []) Any (0 ∷ []) d
+took-never words end c t w h d ready wide here is =
+    took words end c t (w ∷ []) Any (0 ∷ []) h 0 0 d ready
+    (rw (there-one t w, ← here) (omega arith))
+    (λ bs long cuts room. (refl, λ _. go bs (holds t) (rw here at room)))
+    is
+  where
+    go : (bs : List Bool) (b : Bool) → c .at + pick b w 0 ≤ end → numbers (pick b (w ∷ []) (0 ∷ [])) (drop (c .at) bs) ≡ 0 ∷ []
+    go bs true room = absurd (omega arith)
+    go bs false room = refl
+
+-- A part of a number's bits is a part of the number.
+part-of : (ds : List Bool) (n o w r : ℕ) → o + w + r ≡ n → n ≤ length ds → number (take w (drop o ds)) ≡ number (take n ds) / 2 ^ r % 2 ^ w
+part-of ds n o w r e long =
+    let whole : part n 0 ds ≡ number (take n ds) = part-take n 0 ds (omega arith) in
+    let here : 0 + o ≡ o = omega arith in
+    let one : part n 0 ds / 2 ^ r % 2 ^ w ≡ part w o ds = rw here at (part-part o w r n 0 ds e) in
+    sym (part-take w o ds (omega arith)) ∙ sym one ∙ rw whole
+
+tariff-held : (b : Bool) (ds : List Bool) (v : ℕ)
+    → pick b 16 0 ≤ length ds
+    → v ≡ number (take (pick b 16 0) ds)
+    → numbers (pick b (4 ∷ 8 ∷ 4 ∷ []) (0 ∷ 0 ∷ 0 ∷ [])) ds ≡ v / 4096 ∷ v / 16 % 256 ∷ v % 16 ∷ []
+tariff-held false ds v long e = rw e
+tariff-held true ds v long e =
+    let small : v < 2 ^ 16 = rw e (rw (length-take-le 16 ds long) at (number-lt (take 16 ds))) in
+    let key : number (take 4 ds) ≡ v / 4096 = part-of ds 16 0 4 12 refl long ∙ rw (← e) (omega arith) in
+    let type : number (take 8 (drop 4 ds)) ≡ v / 16 % 256 = part-of ds 16 4 8 4 refl long ∙ rw (← e) (omega arith) in
+    let priority : number (take 4 (drop 8 (drop 4 ds))) ≡ v % 16 =
+    ap (λ (l : List Bool). number (take 4 l)) (drop-drop 8 4 ds) ∙ part-of ds 16 12 4 0 refl long ∙ rw (← e) (omega arith) in
+    rw (key, type, priority)
+
+pub took-tariff : (words : List ℕ) (end : ℕ) (c : Cursor) (t : When) (h v n : ℕ) (d : Cursor)
+    → Ready words end c
+    → h ≡ pick (holds t) 16 0
+    → v ≡ numberAt words (c .at) h
+    → n ≡ pick (eqb (v % 16) 13) 4 0
+    → d ≡ admitted c end h false n v
+    → Took words end c t (4 ∷ 8 ∷ 4 ∷ []) Tariff (v / 4096 ∷ v / 16 % 256 ∷ v % 16 ∷ []) d
+took-tariff words end c t h v n d ready here reads ruled is =
+    took words end c t (4 ∷ 8 ∷ 4 ∷ []) Tariff _ h n v d ready
+    (here ∙ wide (holds t))
+    (λ bs long cuts room.
+    let gives : numbers (there t (4 ∷ 8 ∷ 4 ∷ [])) (drop (c .at) bs) ≡ v / 4096 ∷ v / 16 % 256 ∷ v % 16 ∷ [] =
+    tariff-held (holds t) (drop (c .at) bs) v (rw (length-drop (c .at) bs) (omega arith))
+    (rw (← here) (held words end c h v bs ready (box-width t 16 h 32 here (omega arith)) reads long cuts room)) in
+    (ap (broken Tariff) gives ∙ sym ruled, λ _. gives))
+    is
+  where
+    wide : (b : Bool) → pick b 16 0 ≡ total (pick b (4 ∷ 8 ∷ 4 ∷ []) (0 ∷ 0 ∷ 0 ∷ []))
+    wide true = refl
+    wide false = refl
+
+-- One more letter.
+pub spelt-more : (words : List ℕ) (at w n : ℕ) (letters : List ℕ) (i place : ℕ)
+    → i < n
+    → length letters ≡ n
+    → lettersAt words at w n ≡ take i letters ++ lettersAt words place w (n - i)
+    → lettersAt words at w n ≡ take (i + 1) (set letters i (numberAt words place w)) ++ lettersAt words (place + w) w (n - (i + 1))
+spelt-more words at w n letters i place h long so =
+    let left : n - i ≡ suc (n - (i + 1)) = omega arith in
+    let inside : i < length letters = omega arith in
+    (rw left at so) ∙ rw (add-one i, take-suc-set letters i (numberAt words place w) inside, append-assoc)
+
+letters-held : (words : List ℕ) (bs : List Bool) (at w n : ℕ)
+    → w ≤ 32
+    → (at + w * n) / 32 < length words
+    → at + w * n ≤ length bs
+    → words ≡ cut 32 63 (length words) bs
+    → numbers (replicate n w) (drop at bs) ≡ lettersAt words at w n
+letters-held words bs at w zero narrow covered room cuts = refl
+letters-held words bs at w (suc n) narrow covered room cuts =
+    let one : numberAt words at w ≡ number (take w (drop at bs)) = rw cuts (number-at (length words) bs at w (omega arith) narrow (omega arith)) in
+    let rest = letters-held words bs (at + w) w n narrow (omega arith) (omega arith) cuts in
+    rw (one, drop-drop w at bs, rest)
+
+pub took-text : (words : List ℕ) (end : ℕ) (c : Cursor) (t : When) (letters : List ℕ) (h n : ℕ) (d : Cursor)
+    → Ready words end c
+    → h ≡ pick (holds t) 5 0
+    → d ≡ admitted c end (n * h) false 0 0
+    → (d .why ≡ 0 → letters ≡ lettersAt words (c .at) h n)
+    → Took words end c t (replicate n 5) Any letters d
+took-text words end c t letters h n d ready here is spelt =
+    took words end c t (replicate n 5) Any letters (n * h) 0 0 d ready
+    (rw (there-same t n 5, ← here) (sym (total-same n h)))
+    (λ bs long cuts room. (
+      refl,
+      λ ok. rw (there-same t n 5, ← here)
+          (letters-held words bs (c .at) h n (box-width t 5 h 32 here (omega arith)) (omega (arith, ready .within, ready .covered)) (omega arith) cuts
+          ∙ sym (spelt ok)),
+    ))
+    is
+
+-- Letters that have room have words.
+pub spells : (words : List ℕ) (end : ℕ) (c : Cursor) (t : When) (h n : ℕ) (d : Cursor)
+    → Ready words end c
+    → end < 2 ^ 32
+    → h ≡ pick (holds t) 5 0
+    → d ≡ admitted c end (n * h) false 0 0
+    → d .why ≡ 0
+    → Spells words (c .at) h n
+spells words end c t h n d ready fits here is ok =
+    let clear = admitted-clear c end (n * h) false 0 0 (rw is at ok) in
+    record {
+      narrow = box-width t 5 h 32 here (omega arith);
+      covered = omega (arith, ready .covered, clear .inside);
+      small = omega (arith, clear .inside);
+    }
+
+-- The end of a reading after a refusal, at the end of the bits, and at a one before it.
+pub ended-refused : (words : List ℕ) (end : ℕ) (c : Cursor) → (c .why ≡ 0 → ⊥) → Ended words end c c
+unfolding resume
+ended-refused words end c why = record { says = λ bs long cuts i seen. rw (ne-eqb _ _ why) }
+
+module _ (words : List ℕ) (end : ℕ) (c : Cursor) (one : ℕ)
+    (clear : c .why ≡ 0)
+    (found : (bs : List Bool) → length bs ≡ end → words ≡ cut 32 63 (length words) bs → one ≡ c .at + leading (drop (c .at) bs)) where
+  pub ended-done : one ≡ end → Ended words end c c
+  unfolding resume ending
+  ended-done last =
+      record {
+        says = λ bs long cuts i seen.
+            rw (eq-eqb _ _ clear, eq-eqb _ _ (sym (found bs long cuts) ∙ last ∙ sym long));
+      }
+
+  pub ended-five : (one ≡ end → ⊥) → Ended words end c (record { at = one; why = 5; number = 0 })
+  unfolding resume ending
+  ended-five short =
+      record {
+        says = λ bs long cuts i seen.
+            rw (eq-eqb _ _ clear, ne-eqb _ _ (λ e. short (found bs long cuts ∙ e ∙ long)), found bs long cuts);
+      }

@@ -1,0 +1,6 @@
+pub mod Row
+pub mod Walk
+pub mod Raise
+pub mod Step
+pub mod Line
+pub mod table

@@ -1,0 +1,39 @@
+-- A straight line of takes or puts, a step a row: what a reader or writer in code is. (proofs/Running.antt has the laws that
+-- such a line is the reading or the writing of its table.)
+use Prim.Native.Nat.{ℕ}
+use mathlib.Core.List.{List, [], _∷_, _++_}
+use mathlib.Core.Path.{_≡_}
+use lib.Dec.{eqb}
+use lib.ListN.{length, take, drop}
+use Rattle.rows.specs.Row.{Row, pick, told}
+use Rattle.rows.specs.Walk.{Outcome, done, refused}
+use Rattle.rows.specs.Step.{Ready, Took, Gave}
+use Rattle.rows.specs.declared.Cursor.{Cursor}
+
+-- A cursor at the first bit.
+abbrev pub start : Cursor
+start = record { at = 0; why = 0; number = 0 }
+
+-- Takes of the rows, one after the other: from the numbers seen and the cursor c to all the numbers and the cursor d.
+unfoldable pub Takes : List ℕ → ℕ → List Row → List ℕ → Cursor → List ℕ → Cursor → Type 0
+Takes words end [] seen c all d = (seen ≡ all) × (c ≡ d)
+Takes words end (r ∷ rs) seen c all d =
+    (vs : List ℕ) × (e : Cursor) × Took words end c (told (r .cond) seen) (r .boxes) (r .rule) vs e
+    × Takes words end rs (seen ++ vs) e all d
+
+-- The same, with a cursor that is ready for more.
+pub record Taken (words : List ℕ) (end : ℕ) (rows : List Row) (seen : List ℕ) (c : Cursor) (all : List ℕ) (d : Cursor) : Type 0 where
+  pub takes : Takes words end rows seen c all d
+  pub ready : Ready words end d
+
+-- Puts of the rows, one after the other: the numbers vals from the draft xs and the cursor c to the draft ys and the cursor d.
+unfoldable pub Puts : ℕ → List ℕ → List Row → List ℕ → List ℕ → Cursor → List ℕ → Cursor → Type 0
+Puts room vals [] seen xs c ys d = (xs ≡ ys) × (c ≡ d)
+Puts room vals (r ∷ rs) seen xs c ys d =
+    (vs : List ℕ) × (zs : List ℕ) × (e : Cursor) × Gave xs zs room c (told (r .cond) seen) (r .boxes) (r .rule) vs e
+    × (take (length (r .boxes)) (drop (length seen) vals) ≡ vs)
+    × Puts room vals rs (seen ++ vs) zs e ys d
+
+-- What a cursor says at the end.
+abbrev pub tells : {A : Type 0} → Cursor → A → Outcome A
+tells c a = pick (eqb (c .why) 0) (done a (c .at)) (refused (c .why) (c .at) 0)

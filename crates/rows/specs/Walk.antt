@@ -1,0 +1,107 @@
+-- What it means to read a table of rows from bits, and to write it. Document 01, "Boxes and bitmaps" and
+-- "Refusal numbers".
+use Prim.Native.Nat.{ℕ, zero, suc, _+_, _-_, _/_, _%_, _^_}
+use mathlib.Core.List.{List, [], _∷_, _++_, map}
+use mathlib.Core.Bool.{Bool, true, false}
+use lib.Dec.{eqb, leb, ltb}
+use lib.ListN.{length, getD, take, drop}
+use Rattle.bits.specs.Bits.{number, bitsOf, zeros, leading}
+use Rattle.rows.specs.Row.{Row, pick, told, holds, broken}
+use Rattle.rows.specs.declared.When.{When}
+
+-- What a walk comes to: a value and the end, a bit's place; or a refusal's number, its place and the row at fault.
+pub data Outcome (A : Type 0) : Type 0 where
+  done : A → ℕ → Outcome A
+  refused : ℕ → ℕ → ℕ → Outcome A
+
+-- The first fault wins.
+abbrev pub andThen : {A B : Type 0} → Outcome A → (A → ℕ → Outcome B) → Outcome B
+andThen (done a end) next = next a end
+andThen (refused n at i) next = refused n at i
+
+abbrev pub total : List ℕ → ℕ
+total [] = 0
+total (w ∷ ws) = w + total ws
+
+-- The boxes of a field as they stand on the card: an absent field's have no bits.
+abbrev pub there : When → List ℕ → List ℕ
+there t ws = pick (holds t) ws (map (λ (w : ℕ). 0) ws)
+
+abbrev pub boxesOf : Row → List ℕ → List ℕ
+boxesOf r seen = there (told (r .cond) seen) (r .boxes)
+
+-- Whether a number is too wide for its box. In a box of no bits any number but zero is.
+abbrev pub exceeds : List ℕ → List ℕ → Bool
+exceeds [] vs = false
+exceeds (w ∷ ws) [] = false
+exceeds (w ∷ ws) (v ∷ vs) = pick (ltb v (2 ^ w)) (exceeds ws vs) true
+
+-- The first fault of a field, 0 for none: 7, a number too wide (so only in writing); 2, past the end; its rule's 3 or 4.
+abbrev pub fault : Bool → ℕ → ℕ → ℕ → ℕ
+fault wide end room ruled = pick wide 7 (pick (ltb room end) 2 ruled)
+
+-- Where a field's numbers come from: the bit reached, the first slot, the boxes.
+abbrev pub Source : Type 0
+Source = ℕ → ℕ → List ℕ → List ℕ
+
+-- One field, row i of its table.
+unfoldable pub field : ℕ → Source → Row → ℕ → List ℕ → ℕ → Outcome (List ℕ)
+field room from r i seen at =
+    let ws : List ℕ = boxesOf r seen in
+    let vs : List ℕ = from at (length seen) ws in
+    let n : ℕ = fault (exceeds ws vs) (at + total ws) room (broken (r .rule) vs) in
+    pick (eqb n 0) (done vs (at + total ws)) (refused n at i)
+
+-- The rows from i on, after the numbers seen, from bit at on.
+abbrev pub walk : ℕ → Source → List Row → ℕ → List ℕ → ℕ → Outcome (List ℕ)
+walk room from [] i seen at = done seen at
+walk room from (r ∷ rs) i seen at =
+    andThen (field room from r i seen at) (λ vs end. walk room from rs (suc i) (seen ++ vs) end)
+
+-- The numbers in boxes that stand one after the other, from the front.
+abbrev pub numbers : List ℕ → List Bool → List ℕ
+numbers [] bs = []
+numbers (w ∷ ws) bs = number (take w bs) ∷ numbers ws (drop w bs)
+
+-- In reading, a field's numbers are those in its boxes.
+abbrev pub boxesAt : List Bool → Source
+boxesAt bs at n ws = numbers ws (drop at bs)
+
+-- In writing, they are those of its slots.
+abbrev pub slotsOf : List ℕ → Source
+slotsOf vals at n ws = take (length ws) (drop n vals)
+
+-- After the last field every bit is zero: 5 at the first that is not.
+unfoldable pub ending : List Bool → List ℕ → ℕ → Outcome (List ℕ)
+ending bs vals at =
+    pick (eqb (at + leading (drop at bs)) (length bs)) (done vals at) (refused 5 (at + leading (drop at bs)) 0)
+
+-- Reading a table from bits: the slots and the end of the last field.
+unfoldable pub read : List Row → List Bool → Outcome (List ℕ)
+read rows bs = andThen (walk (length bs) (boxesAt bs) rows 0 [] 0) (ending bs)
+
+-- The width of each slot's box, 0 where its field is absent.
+abbrev pub frameOn : List Row → List ℕ → List ℕ → List ℕ
+frameOn [] seen vals = []
+frameOn (r ∷ rs) seen vals =
+    boxesOf r seen ++ frameOn rs (seen ++ take (length (r .boxes)) vals) (drop (length (r .boxes)) vals)
+
+unfoldable pub frame : List Row → List ℕ → List ℕ
+frame rows vals = frameOn rows [] vals
+
+-- Numbers in boxes, one after the other, behind some bits.
+abbrev pub laidOn : List Bool → List ℕ → List ℕ → List Bool
+laidOn out [] vs = out
+laidOn out (w ∷ ws) [] = out
+laidOn out (w ∷ ws) (v ∷ vs) = laidOn (out ++ bitsOf w v) ws vs
+
+-- Writing a table: the slots' boxes one after the other, and zeros to the end of the room.
+unfoldable pub write : List Row → ℕ → List ℕ → Outcome (List Bool)
+write rows room vals =
+    andThen (walk room (slotsOf vals) rows 0 [] 0)
+    (λ all end. done (laidOn [] (frame rows vals) vals ++ zeros (room - end)) end)
+
+-- How many slots a table has.
+abbrev pub slots : List Row → ℕ
+slots [] = 0
+slots (r ∷ rs) = length (r .boxes) + slots rs

@@ -1,0 +1,35 @@
+// Rows: the steps that every reader and writer is a straight line of, a line a field.
+pub mod put;
+mod step;
+pub mod take;
+
+// Where a walk over a record or area stands. After a refusal it stays there.
+pub struct Cursor {
+    pub at: u32, // the bit reached: the place of the refusal, once there is one
+    pub why: u32, // the refusal's number, 0 for none
+    pub number: u32, // the number read last
+}
+
+// When a field is there.
+pub enum When {
+    Always,
+    Bit(u32, u32), // a bitmap's number and the element, [0] being its last bit
+    Above(u32, u32), // a count and how many entries stand before this one
+}
+
+// What the numbers of a field must keep to.
+pub enum Rule {
+    Any,
+    Most(u32), // at most so much, else 4
+    Tariff, // the third number, a priority, is not 13, else 4
+    NoSecond, // element [1] is not marked present, else 3
+}
+
+impl Cursor {
+    // At the first bit of a record or area.
+    pub const START: Cursor = Cursor {
+        at: 0,
+        why: 0,
+        number: 0,
+    };
+}
