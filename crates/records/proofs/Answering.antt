@@ -46,10 +46,10 @@ written-blind before = record { same = go }
     go (done bs end) = refl
     go (refused n at i) = refl
 
-module _ (rows : List Row) (room : ℕ) (vals xs ys before after : List ℕ) (d : Cursor)
+module _ (rows : List Row) (room : ℕ) (vals xs all ys before after : List ℕ) (d : Cursor)
     (sized : length vals ≡ slots rows)
     (empty : xs ≡ cut 32 32 (length xs) [])
-    (puts : Puts room vals rows [] xs start ys d)
+    (puts : Puts room vals rows [] xs start all ys d)
     (packed : Packed ys d before after) where
   bits : List Bool
   bits = laidOn [] (frame rows vals) vals
@@ -58,12 +58,12 @@ module _ (rows : List Row) (room : ℕ) (vals xs ys before after : List ℕ) (d 
   unfolding bits
   says-written =
       sym (written-blind before .same (write rows room vals))
-      ∙ ap (written before) (puts-write room rows vals xs ys d sized empty puts .0)
+      ∙ ap (written before) (puts-write room rows vals xs all ys d sized empty puts .0)
 
   pub writes-done : d .why ≡ 0 → record { answer = record { number = 0; place = 0 }; bytes = after } ≡ written before (write rows room vals)
   unfolding bits
   writes-done ok =
-      let drawn : ys ≡ cut 32 32 (length xs) bits = puts-write room rows vals xs ys d sized empty puts .1 ok in
+      let drawn : ys ≡ cut 32 32 (length xs) bits = puts-write room rows vals xs all ys d sized empty puts .1 ok in
       let long : length ys ≡ length xs = ap length drawn ∙ length-cut 32 32 (length xs) bits in
       let bytes : after ≡ cut 8 8 (length before) bits = packed .written ok bits (rw long drawn) in
       sym (says-written ∙ rw (eq-eqb _ _ ok, cut-pad, ← bytes))

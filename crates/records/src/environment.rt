@@ -127,7 +127,7 @@ pub fn write(bytes: &mut [u8], e: Environment) -> Refusal
 
 fn put_fields(draft: &mut [u64], e: Environment) -> Cursor
     requires { ⌜ length (now draft) ≡ 9 ⌝ }
-    ensures { λ d. ⌜ Puts 232 (numbersOf e) environment [] (now (draft .entry)) start (now (draft .exit)) d ⌝ }
+    ensures { λ d. ⌜ Puts 232 (numbersOf e) environment [] (now (draft .entry)) start (numbersOf e) (now (draft .exit)) d ⌝ }
 {
     let version = put::number(draft, BITS, Cursor::START, When::Always, 6, e.version);
     let bitmap = put::number(draft, BITS, version, When::Always, 7, e.bitmap);

@@ -65,24 +65,24 @@ module _ (room : ℕ) where
         → (length (laidOn out (frameOn rows seen rest) rest) ≡ d .at)
         × (ys ≡ cut 32 32 (length xs) (laidOn out (frameOn rows seen rest) rest))
 
-  puts-run : (vals : List ℕ) (rows : List Row) (i : ℕ) (seen rest xs : List ℕ) (c : Cursor) (ys : List ℕ) (d : Cursor)
+  puts-run : (vals : List ℕ) (rows : List Row) (i : ℕ) (seen rest xs : List ℕ) (c : Cursor) (all ys : List ℕ) (d : Cursor)
       → vals ≡ seen ++ rest
       → length rest ≡ slots rows
-      → Puts room vals rows seen xs c ys d
+      → Puts room vals rows seen xs c all ys d
       → Ran vals rows i seen rest xs c ys d
   unfolding Puts resume
-  puts-run vals [] i seen [] xs c ys d parts sized (same, here) =
+  puts-run vals [] i seen [] xs c all ys d parts sized (_, same, here) =
       record {
         comes = rw (here, parts, append-nil);
         before = λ ok. rw here ok;
         laid = λ ok out at drafted. (rw (← here) at, rw (← same) drafted);
       }
-  puts-run vals [] i seen (v ∷ rest) xs c ys d parts sized nil = absurd (omega arith)
-  puts-run vals (r ∷ rs) i seen rest xs c ys d parts sized (vs, zs, e, gave, these, others) =
+  puts-run vals [] i seen (v ∷ rest) xs c all ys d parts sized nil = absurd (omega arith)
+  puts-run vals (r ∷ rs) i seen rest xs c all ys d parts sized (vs, zs, e, gave, these, others) =
       let k : ℕ = length (r .boxes) in
       let own : take k rest ≡ vs = rw (parts, drop-append-seam seen rest) at these in
       let along : Ran vals rs (suc i) (seen ++ vs) (drop k rest) zs e ys d =
-      puts-run vals rs (suc i) (seen ++ vs) (drop k rest) zs e ys d
+      puts-run vals rs (suc i) (seen ++ vs) (drop k rest) zs e all ys d
       (parts ∙ rw (← own) (rw (append-assoc, take-append-drop k rest)))
       (rw (length-drop k rest) (omega arith))
       others in
@@ -99,15 +99,15 @@ module _ (room : ℕ) where
       }
 
   -- A whole writing: what it comes to, and the draft where there was no fault.
-  pub puts-write : (rows : List Row) (vals xs ys : List ℕ) (d : Cursor)
+  pub puts-write : (rows : List Row) (vals xs all ys : List ℕ) (d : Cursor)
       → length vals ≡ slots rows
       → xs ≡ cut 32 32 (length xs) []
-      → Puts room vals rows [] xs start ys d
+      → Puts room vals rows [] xs start all ys d
       → (said (write rows room vals) ≡ tells d (laidOn [] (frame rows vals) vals ++ zeros (room - d .at)))
       × (d .why ≡ 0 → ys ≡ cut 32 32 (length xs) (laidOn [] (frame rows vals) vals))
   unfolding write frame resume
-  puts-write rows vals xs ys d sized empty puts =
-      let ran = puts-run vals rows 0 [] vals xs start ys d refl sized puts in
+  puts-write rows vals xs all ys d sized empty puts =
+      let ran = puts-run vals rows 0 [] vals xs start all ys d refl sized puts in
       let bits : List Bool = laidOn [] (frameOn rows [] vals) vals in
       let steps : said (walk room (slotsOf vals) rows 0 [] 0) ≡ tells d vals = ran .comes in (
         said-then (walk room (slotsOf vals) rows 0 [] 0) (λ all end. done (bits ++ zeros (room - end)) end) (λ all end. refl)
@@ -121,3 +121,23 @@ module _ (room : ℕ) where
           ≡ pick b (done (laidOn [] (frameOn rows [] vals) vals ++ zeros (room - d .at)) (d .at)) (refused (d .why) (d .at) 0)
       go true = refl
       go false = refl
+
+-- Two lines of takes are one.
+pub takes-append : (words : List ℕ) (end : ℕ) (rows more : List Row) (seen : List ℕ) (c : Cursor) (some : List ℕ) (d : Cursor) (all : List ℕ) (e : Cursor)
+    → Takes words end rows seen c some d
+    → Takes words end more some d all e
+    → Takes words end (rows ++ more) seen c all e
+unfolding Takes
+takes-append words end [] more seen c some d all e (same, here) rest = rw (same, here) rest
+takes-append words end (r ∷ rows) more seen c some d all e (vs, b, took, others) rest =
+    (vs, b, took, takes-append words end rows more (seen ++ vs) b some d all e others rest)
+
+-- Two lines of puts are one.
+pub puts-append : (room : ℕ) (vals : List ℕ) (rows more : List Row) (seen xs : List ℕ) (c : Cursor) (some ys : List ℕ) (d : Cursor) (all zs : List ℕ) (e : Cursor)
+    → Puts room vals rows seen xs c some ys d
+    → Puts room vals more some ys d all zs e
+    → Puts room vals (rows ++ more) seen xs c all zs e
+unfolding Puts
+puts-append room vals [] more seen xs c some ys d all zs e (same, draft, here) rest = rw (same, draft, here) rest
+puts-append room vals (r ∷ rows) more seen xs c some ys d all zs e (vs, bs, b, gave, own, others) rest =
+    (vs, bs, b, gave, own, puts-append room vals rows more (seen ++ vs) bs b some ys d all zs e others rest)

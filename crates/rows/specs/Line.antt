@@ -7,7 +7,7 @@ use lib.Dec.{eqb}
 use lib.ListN.{length, take, drop}
 use Rattle.rows.specs.Row.{Row, pick, told}
 use Rattle.rows.specs.Walk.{Outcome, done, refused}
-use Rattle.rows.specs.Step.{Ready, Took, Gave}
+use Rattle.rows.specs.Step.{Ready, Took, Drafted, Gave}
 use Rattle.rows.specs.declared.Cursor.{Cursor}
 
 -- A cursor at the first bit.
@@ -26,13 +26,19 @@ pub record Taken (words : List ℕ) (end : ℕ) (rows : List Row) (seen : List �
   pub takes : Takes words end rows seen c all d
   pub ready : Ready words end d
 
--- Puts of the rows, one after the other: the numbers vals from the draft xs and the cursor c to the draft ys and the cursor d.
-unfoldable pub Puts : ℕ → List ℕ → List Row → List ℕ → List ℕ → Cursor → List ℕ → Cursor → Type 0
-Puts room vals [] seen xs c ys d = (xs ≡ ys) × (c ≡ d)
-Puts room vals (r ∷ rs) seen xs c ys d =
+-- Puts of the rows, one after the other, of the numbers vals: from the numbers seen, the draft xs and the cursor c to all the
+-- numbers, the draft ys and the cursor d.
+unfoldable pub Puts : ℕ → List ℕ → List Row → List ℕ → List ℕ → Cursor → List ℕ → List ℕ → Cursor → Type 0
+Puts room vals [] seen xs c all ys d = (seen ≡ all) × (xs ≡ ys) × (c ≡ d)
+Puts room vals (r ∷ rs) seen xs c all ys d =
     (vs : List ℕ) × (zs : List ℕ) × (e : Cursor) × Gave xs zs room c (told (r .cond) seen) (r .boxes) (r .rule) vs e
     × (take (length (r .boxes)) (drop (length seen) vals) ≡ vs)
-    × Puts room vals rs (seen ++ vs) zs e ys d
+    × Puts room vals rs (seen ++ vs) zs e all ys d
+
+-- The same, with a draft and a cursor that are ready for more.
+pub record Given (room : ℕ) (vals : List ℕ) (rows : List Row) (seen xs : List ℕ) (c : Cursor) (all ys : List ℕ) (d : Cursor) : Type 0 where
+  pub puts : Puts room vals rows seen xs c all ys d
+  pub ready : Drafted ys room d
 
 -- What a cursor says at the end.
 abbrev pub tells : {A : Type 0} → Cursor → A → Outcome A

@@ -121,7 +121,7 @@ returns c = (
                   _,
                   c .before .before .before .before .before .before .env-data .ensures,
                   refl,
-                  (_, _, _, c .before .before .number9 .ensures, refl, (refl, refl)),
+                  (_, _, _, c .before .before .number9 .ensures, refl, (refl, refl, refl)),
                 ),
               ),
             ),

@@ -39,7 +39,7 @@ same-length c = search needs
 -- src/environment.rt:101:9
 returns-2 : tie.Need-returns-2
 unfolding environmentWritten environment
-returns-2 c = rw (eq-eqb _ _ (c .before .before .before .before .before .before .before .before .before .before .if1 .left)) (writes-done environment 232 _ _ _ _ _ _ refl refl (c .before .before .before .before .before .before .before .before .put-fields .ensures) (c .before .before .before .before .end .ensures) (c .if2 .taken))
+returns-2 c = rw (eq-eqb _ _ (c .before .before .before .before .before .before .before .before .before .before .if1 .left)) (writes-done environment 232 _ _ _ _ _ _ _ refl refl (c .before .before .before .before .before .before .before .before .put-fields .ensures) (c .before .before .before .before .end .ensures) (c .if2 .taken))
 
 -- src/environment.rt:91:1
 same-length-2 : tie.Need-same-length-2
@@ -48,7 +48,7 @@ same-length-2 c = search needs
 -- src/environment.rt:91:1
 returns-3 : tie.Need-returns-3
 unfolding environmentWritten environment
-returns-3 c = rw (eq-eqb _ _ (c .before .before .before .before .before .before .before .before .before .before .if1 .left)) (writes-refused environment 232 _ _ _ _ _ _ refl refl (c .before .before .before .before .before .before .before .before .put-fields .ensures) (c .before .before .before .before .end .ensures) (c .if2 .left))
+returns-3 c = rw (eq-eqb _ _ (c .before .before .before .before .before .before .before .before .before .before .if1 .left)) (writes-refused environment 232 _ _ _ _ _ _ _ refl refl (c .before .before .before .before .before .before .before .before .put-fields .ensures) (c .before .before .before .before .end .ensures) (c .if2 .left))
 
 pub write-spec : {M : Type 1} → statement M
 write-spec =
