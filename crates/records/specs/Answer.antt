@@ -1,18 +1,46 @@
--- What operations answer, and what they leave in the bytes lent to them.
+-- What operations answer, and what they leave in the bytes lent to them. Document 01, "Refusal numbers".
 use Prim.Native.Nat.{ℕ}
 use mathlib.Core.Bool.{Bool}
 use mathlib.Core.List.{List}
+use lib.Dec.{eqb}
 use lib.ListN.{length}
-use Rattle.bits.specs.Bits.{cut}
-use Rattle.rows.specs.Walk.{Outcome, done, refused}
+use Rattle.bits.specs.Bits.{cut, spread}
+use Rattle.rows.specs.Row.{Row, pick}
+use Rattle.rows.specs.Walk.{Outcome, done, refused, read, write}
 use Rattle.records.specs.declared.Refusal.{Refusal}
+
+abbrev pub refusal : ℕ → ℕ → Refusal
+refusal n at = record { number = n; place = at }
 
 -- The answer of an operation that writes, and the later contents of the bytes lent to it.
 pub record Written : Type 0 where
   pub answer : Refusal
   pub bytes : List ℕ
 
--- Bits written are all of the bytes; refused, the bytes are as they were.
+-- Accepted is 0, at place 0.
+abbrev pub accepted : List ℕ → Written
+accepted bytes = record { answer = refusal 0 0; bytes = bytes }
+
+-- Refused, the bytes are as they were.
+abbrev pub denied : ℕ → ℕ → List ℕ → Written
+denied n at before = record { answer = refusal n at; bytes = before }
+
+-- Bits that are written are all of the bytes.
 abbrev pub written : List ℕ → Outcome (List Bool) → Written
-written before (done bs end) = record { answer = record { number = 0; place = 0 }; bytes = cut 8 8 (length before) bs }
-written before (refused n at i) = record { answer = record { number = n; place = at }; bytes = before }
+written before (done bs end) = accepted (cut 8 8 (length before) bs)
+written before (refused n at i) = denied n at before
+
+-- The answer to a reading: a value made of the slots, or the refusal.
+abbrev pub answered : {A : Type 0} → (List ℕ → A) → (Refusal → A) → Outcome (List ℕ) → A
+answered good bad (done vals end) = good vals
+answered good bad (refused n at i) = bad (refusal n at)
+
+-- Reading a table from a record, which is 29 bytes: 1 else.
+unfoldable pub readRecord : {A : Type 0} → (List ℕ → A) → (Refusal → A) → List Row → List ℕ → A
+readRecord good bad rows bytes =
+    pick (eqb (length bytes) 29) (answered good bad (read rows (spread 8 bytes))) (bad (refusal 1 0))
+
+-- Writing a table to a record.
+unfoldable pub writeRecord : List Row → List ℕ → List ℕ → Written
+writeRecord rows vals before =
+    pick (eqb (length before) 29) (written before (write rows 232 vals)) (denied 1 0 before)

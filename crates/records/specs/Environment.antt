@@ -1,13 +1,9 @@
 -- Environment as a value: named numbers, in the order of the table's slots.
 use Prim.Native.Nat.{ℕ}
 use mathlib.Core.List.{List, [], _∷_}
-use lib.Dec.{eqb}
-use lib.ListN.{length, getD}
-use Rattle.bits.specs.Bits.{spread}
-use Rattle.rows.specs.Row.{pick}
-use Rattle.rows.specs.Walk.{Outcome, done, refused, read, write}
+use lib.ListN.{getD}
 use Rattle.rows.specs.table.Environment.{environment}
-use Rattle.records.specs.Answer.{Written, written}
+use Rattle.records.specs.Answer.{Written, readRecord, writeRecord}
 use Rattle.records.specs.declared.environment.Environment.{Environment}
 use Rattle.records.specs.declared.environment.EnvironmentRead.{EnvironmentRead}
 use Rattle.records.specs.declared.environment.EnvironmentRead.the-variants.{Read, Refused}
@@ -41,16 +37,8 @@ environmentOf vals =
       «card_status» = getD vals 9 0;
     }
 
-abbrev pub answered : Outcome (List ℕ) → EnvironmentRead
-answered (done vals end) = Read (environmentOf vals)
-answered (refused n at i) = Refused (record { number = n; place = at })
+abbrev pub environmentRead : List ℕ → EnvironmentRead
+environmentRead bytes = readRecord (λ vals. Read (environmentOf vals)) Refused environment bytes
 
--- A record is 29 bytes: 1 else.
-unfoldable pub environmentRead : List ℕ → EnvironmentRead
-environmentRead bytes =
-    pick (eqb (length bytes) 29) (answered (read environment (spread 8 bytes))) (Refused (record { number = 1; place = 0 }))
-
-unfoldable pub environmentWritten : List ℕ → Environment → Written
-environmentWritten before e =
-    pick (eqb (length before) 29) (written before (write environment 232 (numbersOf e)))
-    (record { answer = record { number = 1; place = 0 }; bytes = before })
+abbrev pub environmentWritten : List ℕ → Environment → Written
+environmentWritten before e = writeRecord environment (numbersOf e) before

@@ -11,9 +11,9 @@ use lib.Seq.{drop-append-seam, length-take-le}
 use borrow.Author.Tests.{eqb-true}
 use Rattle.bits.specs.Bits.{cut, zeros, leading}
 use Rattle.rows.specs.Row.{Row, pick, told}
-use Rattle.rows.specs.Walk.{Outcome, done, refused, andThen, walk, boxesOf, boxesAt, slotsOf, frameOn, frame, laidOn, slots, ending, read, write}
+use Rattle.rows.specs.Walk.{Outcome, done, refused, andThen, walk, there, boxesAt, slotsOf, frameOn, frame, laidOn, slots, ending, read, write}
 use Rattle.rows.specs.Step.{said, resume, Ended}
-use Rattle.rows.specs.Line.{start, Takes, Puts, tells}
+use Rattle.rows.specs.Line.{start, Takes, taken, _▸_, Puts, given, _◂_, tells}
 use Rattle.rows.specs.declared.Cursor.{Cursor}
 use Rattle.rows.proofs.Boxes.{length-there, laid-append}
 
@@ -31,13 +31,12 @@ said-ending bs vals at = go (eqb (at + leading (drop at bs)) (length bs))
     go false = refl
 
 module _ (words : List ℕ) (end : ℕ) (bs : List Bool) (long : length bs ≡ end) (cuts : words ≡ cut 32 63 (length words) bs) where
-  takes-run : (rows : List Row) (i : ℕ) (seen : List ℕ) (c : Cursor) (all : List ℕ) (d : Cursor)
+  takes-run : {rows : List Row} (i : ℕ) {seen : List ℕ} {c : Cursor} {all : List ℕ} {d : Cursor}
       → Takes words end rows seen c all d
       → resume end (boxesAt bs) rows i seen c ≡ resume end (boxesAt bs) [] 0 all d
-  unfolding Takes resume
-  takes-run [] i seen c all d (same, here) = rw (same, here)
-  takes-run (r ∷ rs) i seen c all d (vs, e, took, rest) =
-      took .step bs long cuts (r .cond) rs i seen refl ∙ takes-run rs (suc i) (seen ++ vs) e all d rest
+  unfolding resume
+  takes-run i taken = refl
+  takes-run i (_▸_ {k} {rs} {seen} took rest) = took .step bs long cuts k rs i seen refl ∙ takes-run (suc i) rest
 
   -- A whole reading.
   pub takes-read : (rows : List Row) (all : List ℕ) (d e : Cursor)
@@ -45,9 +44,9 @@ module _ (words : List ℕ) (end : ℕ) (bs : List Bool) (long : length bs ≡ e
       → Ended words end d e
       → said (read rows bs) ≡ tells e all
   unfolding read resume
-  takes-read rows all d e taken ended =
+  takes-read rows all d e line ended =
       let steps : said (walk (length bs) (boxesAt bs) rows 0 [] 0) ≡ resume end (boxesAt bs) [] 0 all d =
-      rw long (takes-run rows 0 [] start all d taken) in
+      rw long (takes-run 0 line) in
       said-then (walk (length bs) (boxesAt bs) rows 0 [] 0) (ending bs) (said-ending bs)
       ∙ ap (λ (o : Outcome (List ℕ)). andThen o (ending bs)) steps
       ∙ ended .says bs long cuts 0 all
@@ -65,36 +64,33 @@ module _ (room : ℕ) where
         → (length (laidOn out (frameOn rows seen rest) rest) ≡ d .at)
         × (ys ≡ cut 32 32 (length xs) (laidOn out (frameOn rows seen rest) rest))
 
-  puts-run : (vals : List ℕ) (rows : List Row) (i : ℕ) (seen rest xs : List ℕ) (c : Cursor) (all ys : List ℕ) (d : Cursor)
+  puts-run : (vals : List ℕ) {rows : List Row} (i : ℕ) {seen : List ℕ} (rest : List ℕ) {xs : List ℕ} {c : Cursor} {all ys : List ℕ} {d : Cursor}
       → vals ≡ seen ++ rest
       → length rest ≡ slots rows
       → Puts room vals rows seen xs c all ys d
       → Ran vals rows i seen rest xs c ys d
-  unfolding Puts resume
-  puts-run vals [] i seen [] xs c all ys d parts sized (_, same, here) =
-      record {
-        comes = rw (here, parts, append-nil);
-        before = λ ok. rw here ok;
-        laid = λ ok out at drafted. (rw (← here) at, rw (← same) drafted);
-      }
-  puts-run vals [] i seen (v ∷ rest) xs c all ys d parts sized nil = absurd (omega arith)
-  puts-run vals (r ∷ rs) i seen rest xs c all ys d parts sized (vs, zs, e, gave, these, others) =
-      let k : ℕ = length (r .boxes) in
-      let own : take k rest ≡ vs = rw (parts, drop-append-seam seen rest) at these in
-      let along : Ran vals rs (suc i) (seen ++ vs) (drop k rest) zs e ys d =
-      puts-run vals rs (suc i) (seen ++ vs) (drop k rest) zs e all ys d
-      (parts ∙ rw (← own) (rw (append-assoc, take-append-drop k rest)))
-      (rw (length-drop k rest) (omega arith))
+  unfolding resume
+  puts-run vals i [] parts sized given =
+      record { comes = rw (parts, append-nil); before = λ ok. ok; laid = λ ok out at drafted. (at, drafted) }
+  puts-run vals i (v ∷ rest) parts sized given = absurd (omega arith)
+  puts-run vals i rest parts sized (_◂_ {ws} {k} {rule} {rs} {seen} {xs} {c} {zs} {e} {all} {ys} {d} gave others) =
+      let n : ℕ = length ws in
+      let own : take n (drop (length seen) vals) ≡ take n rest = rw (parts, drop-append-seam seen rest) in
+      let along : Ran vals rs (suc i) (seen ++ take n (drop (length seen) vals)) (drop n rest) zs e ys d =
+      puts-run vals (suc i) (drop n rest)
+      (parts ∙ rw own (rw (append-assoc, take-append-drop n rest)))
+      (rw (length-drop n rest) (omega arith))
       others in
       record {
-        comes = gave .step vals (r .cond) rs i seen refl these ∙ along .comes;
+        comes = gave .step vals k rs i seen refl refl ∙ along .comes;
         before = λ ok. gave .before (along .before ok);
         laid = λ ok out at drafted.
             let one = gave .laid (along .before ok) out at drafted in
-            let two = along .laid ok (laidOn out (boxesOf r seen) vs) (one .0) (rw (gave .long) (one .1)) in
-            let whole : laidOn out (frameOn (r ∷ rs) seen rest) rest ≡ laidOn (laidOn out (boxesOf r seen) vs) (frameOn rs (seen ++ vs) (drop k rest)) (drop k rest) =
-            laid-append out (boxesOf r seen) (frameOn rs (seen ++ take k rest) (drop k rest)) rest
-            ∙ rw (length-there (told (r .cond) seen) (r .boxes), own) in
+            let two = along .laid ok (laidOn out (there (told k seen) ws) (take n (drop (length seen) vals))) (one .0) (rw (gave .long) (one .1)) in
+            let whole : laidOn out (frameOn (record { boxes = ws; cond = k; rule = rule } ∷ rs) seen rest) rest
+            ≡ laidOn (laidOn out (there (told k seen) ws) (take n (drop (length seen) vals))) (frameOn rs (seen ++ take n (drop (length seen) vals)) (drop n rest)) (drop n rest) =
+            laid-append out (there (told k seen) ws) (frameOn rs (seen ++ take n rest) (drop n rest)) rest
+            ∙ rw (length-there (told k seen) ws, own) in
             rw whole (two .0, rw (gave .long) at (two .1));
       }
 
@@ -107,7 +103,7 @@ module _ (room : ℕ) where
       × (d .why ≡ 0 → ys ≡ cut 32 32 (length xs) (laidOn [] (frame rows vals) vals))
   unfolding write frame resume
   puts-write rows vals xs all ys d sized empty puts =
-      let ran = puts-run vals rows 0 [] vals xs start all ys d refl sized puts in
+      let ran = puts-run vals 0 vals refl sized puts in
       let bits : List Bool = laidOn [] (frameOn rows [] vals) vals in
       let steps : said (walk room (slotsOf vals) rows 0 [] 0) ≡ tells d vals = ran .comes in (
         said-then (walk room (slotsOf vals) rows 0 [] 0) (λ all end. done (bits ++ zeros (room - end)) end) (λ all end. refl)
@@ -123,21 +119,17 @@ module _ (room : ℕ) where
       go false = refl
 
 -- Two lines of takes are one.
-pub takes-append : (words : List ℕ) (end : ℕ) (rows more : List Row) (seen : List ℕ) (c : Cursor) (some : List ℕ) (d : Cursor) (all : List ℕ) (e : Cursor)
+pub takes-append : {words : List ℕ} {end : ℕ} {rows more : List Row} {seen : List ℕ} {c : Cursor} {some : List ℕ} {d : Cursor} {all : List ℕ} {e : Cursor}
     → Takes words end rows seen c some d
     → Takes words end more some d all e
     → Takes words end (rows ++ more) seen c all e
-unfolding Takes
-takes-append words end [] more seen c some d all e (same, here) rest = rw (same, here) rest
-takes-append words end (r ∷ rows) more seen c some d all e (vs, b, took, others) rest =
-    (vs, b, took, takes-append words end rows more (seen ++ vs) b some d all e others rest)
+takes-append taken rest = rest
+takes-append (took ▸ others) rest = took ▸ takes-append others rest
 
 -- Two lines of puts are one.
-pub puts-append : (room : ℕ) (vals : List ℕ) (rows more : List Row) (seen xs : List ℕ) (c : Cursor) (some ys : List ℕ) (d : Cursor) (all zs : List ℕ) (e : Cursor)
+pub puts-append : {room : ℕ} {vals : List ℕ} {rows more : List Row} {seen xs : List ℕ} {c : Cursor} {some ys : List ℕ} {d : Cursor} {all zs : List ℕ} {e : Cursor}
     → Puts room vals rows seen xs c some ys d
     → Puts room vals more some ys d all zs e
     → Puts room vals (rows ++ more) seen xs c all zs e
-unfolding Puts
-puts-append room vals [] more seen xs c some ys d all zs e (same, draft, here) rest = rw (same, draft, here) rest
-puts-append room vals (r ∷ rows) more seen xs c some ys d all zs e (vs, bs, b, gave, own, others) rest =
-    (vs, bs, b, gave, own, puts-append room vals rows more (seen ++ vs) bs b some ys d all zs e others rest)
+puts-append given rest = rest
+puts-append (gave ◂ others) rest = gave ◂ puts-append others rest

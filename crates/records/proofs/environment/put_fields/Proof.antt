@@ -1,7 +1,6 @@
 use mathlib.Core.Path.{_∙_}
-use mathlib.Core.Path.{refl}
 use lib.Dec.{lit<, lit≤}
-use Rattle.rows.specs.Line.{Puts}
+use Rattle.rows.specs.Line.{given, _◂_}
 use Rattle.rows.specs.table.Environment.{environment}
 use borrow.Author.Needs.{needs}
 use Rattle.records.proofs.environment.put_fields.Statement.{statement}
@@ -66,71 +65,19 @@ same-length c = c .before .before .number9 .kept .0
 
 -- src/environment.rt:109:1
 returns : tie.Need-returns
-unfolding Puts environment
-returns c = (
-  _,
-  _,
-  _,
-  c .before .before .before .before .before .before .before .before .before .before .before .before .before .before .before .before .before .before .before .before .before .before .before .before .before .before .before .before .before .before .before .before .before .before .before .before .before .before .number .ensures,
-  refl,
-  (
-    _,
-    _,
-    _,
-    c .before .before .before .before .before .before .before .before .before .before .before .before .before .before .before .before .before .before .before .before .before .before .before .before .before .before .before .before .before .before .before .before .before .before .number2 .ensures,
-    refl,
-    (
-      _,
-      _,
-      _,
-      c .before .before .before .before .before .before .before .before .before .before .before .before .before .before .before .before .before .before .before .before .before .before .before .before .before .before .before .before .before .before .number3 .ensures,
-      refl,
-      (
-        _,
-        _,
-        _,
-        c .before .before .before .before .before .before .before .before .before .before .before .before .before .before .before .before .before .before .before .before .before .before .before .before .before .before .number4 .ensures,
-        refl,
-        (
-          _,
-          _,
-          _,
-          c .before .before .before .before .before .before .before .before .before .before .before .before .before .before .before .before .before .before .before .before .before .before .number5 .ensures,
-          refl,
-          (
-            _,
-            _,
-            _,
-            c .before .before .before .before .before .before .before .before .before .before .before .before .before .before .before .before .before .before .number6 .ensures,
-            refl,
-            (
-              _,
-              _,
-              _,
-              c .before .before .before .before .before .before .before .before .before .before .before .before .before .before .number7 .ensures,
-              refl,
-              (
-                _,
-                _,
-                _,
-                c .before .before .before .before .before .before .before .before .before .before .number8 .ensures,
-                refl,
-                (
-                  _,
-                  _,
-                  _,
-                  c .before .before .before .before .before .before .env-data .ensures,
-                  refl,
-                  (_, _, _, c .before .before .number9 .ensures, refl, (refl, refl, refl)),
-                ),
-              ),
-            ),
-          ),
-        ),
-      ),
-    ),
-  ),
-)
+unfolding environment
+returns c =
+    c .before .before .before .before .before .before .before .before .before .before .before .before .before .before .before .before .before .before .before .before .before .before .before .before .before .before .before .before .before .before .before .before .before .before .before .before .before .before .number .ensures
+    ◂ c .before .before .before .before .before .before .before .before .before .before .before .before .before .before .before .before .before .before .before .before .before .before .before .before .before .before .before .before .before .before .before .before .before .before .number2 .ensures
+    ◂ c .before .before .before .before .before .before .before .before .before .before .before .before .before .before .before .before .before .before .before .before .before .before .before .before .before .before .before .before .before .before .number3 .ensures
+    ◂ c .before .before .before .before .before .before .before .before .before .before .before .before .before .before .before .before .before .before .before .before .before .before .before .before .before .before .number4 .ensures
+    ◂ c .before .before .before .before .before .before .before .before .before .before .before .before .before .before .before .before .before .before .before .before .before .before .number5 .ensures
+    ◂ c .before .before .before .before .before .before .before .before .before .before .before .before .before .before .before .before .before .before .number6 .ensures
+    ◂ c .before .before .before .before .before .before .before .before .before .before .before .before .before .before .number7 .ensures
+    ◂ c .before .before .before .before .before .before .before .before .before .before .number8 .ensures
+    ◂ c .before .before .before .before .before .before .env-data .ensures
+    ◂ c .before .before .number9 .ensures
+    ◂ given
 
 pub put-fields-spec : {M : Type 1} → statement M
 put-fields-spec =

@@ -1,34 +1,14 @@
-use Rattle.bits.specs.Bits.{cut, spread}
+use mathlib.Core.Path.{_≡_}
 use lib.ListN.{length}
-use mathlib.Core.List.{List}
-use mathlib.Core.Path.{refl, _≡_}
-use Prim.Native.Nat.{ℕ}
-use borrow.Author.Tests.{eq-eqb, ne-eqb}
-use Rattle.rows.specs.Step.{said}
-use Rattle.rows.specs.Walk.{Outcome, done, refused}
-use Rattle.rows.specs.table.Environment.{environment}
-use Rattle.records.specs.Environment.{answered, environmentRead}
-use Rattle.records.proofs.Answering.{Blind, reads-done, reads-refused}
+use Rattle.bits.specs.Bits.{cut, spread}
+use Rattle.records.proofs.Answering.{record-read, record-refused, record-short}
 use borrow.Author.Needs.{needs}
 use Rattle.records.proofs.environment.read.Statement.{statement}
 use Rattle.records.proofs.environment.read.Tie as tie
-use Rattle.records.proofs.environment.read.Reads as reads
-use Rattle.records.proofs.environment.read.Lts as lts
-use Rattle.bits.proofs.words.Reads as words-reads
-use Rattle.records.proofs.environment.take_fields.Reads as take-fields-reads
-use Rattle.rows.proofs.take.end.Reads as end-reads
-
-blind : Blind answered
-blind = record { same = go }
-  where
-    go : (o : Outcome (List ℕ)) → answered (said o) ≡ answered o
-    go (done vals end) = refl
-    go (refused n at i) = refl
 
 -- src/environment.rt:44:9
 returns : tie.Need-returns
-unfolding environmentRead
-returns c = rw (ne-eqb _ _ (c .if1 .taken))
+returns c = record-short _ _ _ _ (c .if1 .taken)
 
 -- src/environment.rt:47:24
 slice-aggregate-words : tie.Need-slice-aggregate-words
@@ -56,23 +36,17 @@ end-requires c κs = search needs
 
 -- src/environment.rt:52:9
 returns-2 : tie.Need-returns-2
-unfolding environmentRead
 returns-2 c = let bytes = c .before .before .before .before .before .before .before .before .before .before .before .before .args .bytes .now in
-    let whole : length bytes ≡ 29 = c .before .before .before .before .before .before .before .before .before .before .if1 .left in
     let words = c .before .before .before .before .before .before .before .before .words2 .last .1 .0 in
     let cuts : words ≡ cut 32 63 (length words) (spread 8 bytes) = rw (c .before .before .before .before .before .before .before .before .words2 .kept .1 .0) (c .before .before .before .before .before .before .before .before .words2 .ensures) in
-    rw (eq-eqb _ _ whole)
-    (reads-refused answered blind environment bytes _ 232 _ _ _ (rw whole) cuts (c .before .before .before .before .before .take-fields .ensures) (c .before .before .end .ensures) (c .if2 .taken))
+    record-refused _ _ _ bytes words _ _ _ (c .before .before .before .before .before .before .before .before .before .before .if1 .left) cuts (c .before .before .before .before .before .take-fields .ensures) (c .before .before .end .ensures) (c .if2 .taken)
 
 -- src/environment.rt:40:1
 returns-3 : tie.Need-returns-3
-unfolding environmentRead
 returns-3 c = let bytes = c .before .before .before .before .before .before .before .before .before .before .before .before .before .args .bytes .now in
-    let whole : length bytes ≡ 29 = c .before .before .before .before .before .before .before .before .before .before .before .if1 .left in
     let words = c .before .before .before .before .before .before .before .before .before .words2 .last .1 .0 in
     let cuts : words ≡ cut 32 63 (length words) (spread 8 bytes) = rw (c .before .before .before .before .before .before .before .before .before .words2 .kept .1 .0) (c .before .before .before .before .before .before .before .before .before .words2 .ensures) in
-    rw (eq-eqb _ _ whole)
-    (reads-done answered blind environment bytes _ 232 _ _ _ (rw whole) cuts (c .before .before .before .before .before .before .take-fields .ensures) (c .before .before .before .end .ensures) (c .before .if2 .left))
+    record-read _ _ _ bytes words _ _ _ (c .before .before .before .before .before .before .before .before .before .before .before .if1 .left) cuts (c .before .before .before .before .before .before .take-fields .ensures) (c .before .before .before .end .ensures) (c .before .if2 .left)
 
 pub read-spec : {M : Type 1} → statement M
 read-spec =

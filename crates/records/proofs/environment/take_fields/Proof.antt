@@ -1,6 +1,5 @@
-use mathlib.Core.Path.{refl}
 use lib.Dec.{lit<, lit≤}
-use Rattle.rows.specs.Line.{Takes}
+use Rattle.rows.specs.Line.{taken, _▸_}
 use Rattle.rows.specs.table.Environment.{environment}
 use borrow.Author.Needs.{needs}
 use Rattle.records.proofs.environment.take_fields.Statement.{statement}
@@ -52,56 +51,23 @@ number-requires-9 c κs = (c .env-data .ensures .ready, lit≤ tt)
 
 -- src/environment.rt:59:1
 returns : tie.Need-returns
-unfolding Takes environment
-returns c = record {
-  takes = (
-    _,
-    _,
-    c .before .before .before .before .before .before .before .before .before .number .ensures,
-    (
-      _,
-      _,
-      c .before .before .before .before .before .before .before .before .number2 .ensures,
-      (
-        _,
-        _,
-        c .before .before .before .before .before .before .before .number3 .ensures,
-        (
-          _,
-          _,
-          c .before .before .before .before .before .before .number4 .ensures,
-          (
-            _,
-            _,
-            c .before .before .before .before .before .number5 .ensures,
-            (
-              _,
-              _,
-              c .before .before .before .before .number6 .ensures,
-              (
-                _,
-                _,
-                c .before .before .before .number7 .ensures,
-                (
-                  _,
-                  _,
-                  c .before .before .number8 .ensures,
-                  (
-                    _,
-                    _,
-                    c .before .env-data .ensures,
-                    (_, _, c .number9 .ensures, (refl, refl)),
-                  ),
-                ),
-              ),
-            ),
-          ),
-        ),
-      ),
-    ),
-  );
-  ready = c .number9 .ensures .ready;
-}
+unfolding environment
+returns c =
+    record {
+      takes =
+          c .before .before .before .before .before .before .before .before .before .number .ensures
+          ▸ c .before .before .before .before .before .before .before .before .number2 .ensures
+          ▸ c .before .before .before .before .before .before .before .number3 .ensures
+          ▸ c .before .before .before .before .before .before .number4 .ensures
+          ▸ c .before .before .before .before .before .number5 .ensures
+          ▸ c .before .before .before .before .number6 .ensures
+          ▸ c .before .before .before .number7 .ensures
+          ▸ c .before .before .number8 .ensures
+          ▸ c .before .env-data .ensures
+          ▸ c .number9 .ensures
+          ▸ taken;
+      ready = c .number9 .ensures .ready;
+    }
 
 pub take-fields-spec : {M : Type 1} → statement M
 take-fields-spec =

@@ -1,20 +1,14 @@
 use mathlib.Core.Path.{refl}
-use borrow.Author.Tests.{eq-eqb, ne-eqb}
-use Rattle.rows.specs.table.Environment.{environment}
-use Rattle.records.specs.Environment.{environmentWritten}
-use Rattle.records.proofs.Answering.{writes-done, writes-refused}
 use borrow.Author.Needs.{needs}
+use Rattle.rows.specs.table.Environment.{environment}
+use Rattle.records.proofs.Answering.{record-written, record-denied, record-unwritten}
 use Rattle.records.proofs.environment.write.Statement.{statement}
 use Rattle.records.proofs.environment.write.Tie as tie
-use Rattle.records.proofs.environment.write.Reads as reads
-use Rattle.records.proofs.environment.write.Lts as lts
-use Rattle.records.proofs.environment.put_fields.Reads as put-fields-reads
-use Rattle.rows.proofs.put.end.Reads as end-reads
 
 -- src/environment.rt:95:9
 returns : tie.Need-returns
-unfolding environmentWritten environment
-returns c = rw (ne-eqb _ _ (c .if1 .taken))
+unfolding environment
+returns c = record-unwritten _ _ _ (c .if1 .taken)
 
 -- src/environment.rt:98:27
 slice-aggregate-put-fields : tie.Need-slice-aggregate-put-fields
@@ -38,8 +32,8 @@ same-length c = search needs
 
 -- src/environment.rt:101:9
 returns-2 : tie.Need-returns-2
-unfolding environmentWritten environment
-returns-2 c = rw (eq-eqb _ _ (c .before .before .before .before .before .before .before .before .before .before .if1 .left)) (writes-done environment 232 _ _ _ _ _ _ _ refl refl (c .before .before .before .before .before .before .before .before .put-fields .ensures) (c .before .before .before .before .end .ensures) (c .if2 .taken))
+unfolding environment
+returns-2 c = record-written environment _ _ _ _ _ _ _ (c .before .before .before .before .before .before .before .before .before .before .if1 .left) refl refl (c .before .before .before .before .before .before .before .before .put-fields .ensures) (c .before .before .before .before .end .ensures) (c .if2 .taken)
 
 -- src/environment.rt:91:1
 same-length-2 : tie.Need-same-length-2
@@ -47,8 +41,8 @@ same-length-2 c = search needs
 
 -- src/environment.rt:91:1
 returns-3 : tie.Need-returns-3
-unfolding environmentWritten environment
-returns-3 c = rw (eq-eqb _ _ (c .before .before .before .before .before .before .before .before .before .before .if1 .left)) (writes-refused environment 232 _ _ _ _ _ _ _ refl refl (c .before .before .before .before .before .before .before .before .put-fields .ensures) (c .before .before .before .before .end .ensures) (c .if2 .left))
+unfolding environment
+returns-3 c = record-denied environment _ _ _ _ _ _ _ (c .before .before .before .before .before .before .before .before .before .before .if1 .left) refl refl (c .before .before .before .before .before .before .before .before .put-fields .ensures) (c .before .before .before .before .end .ensures) (c .if2 .left)
 
 pub write-spec : {M : Type 1} → statement M
 write-spec =

@@ -1,0 +1,99 @@
+-- Typed values and the slots of their table: where each is a view of the other, the round trips of the rows are round trips of
+-- the values and the bytes.
+use Prim.Native.Nat.{ℕ, zero, suc, _+_, _*_, _^_, _≤_, _<_}
+use mathlib.Core.List.{List, [], _∷_}
+use mathlib.Core.Bool.{Bool, true, false}
+use mathlib.Core.Path.{_≡_, refl, sym, ap, _∙_}
+use native.Mathlib.Omega.{arith}
+use lib.ListN.{length, getD, drop, drop-of-length-le}
+use lib.Seq.{drop-cons}
+use Rattle.bits.specs.Bits.{cut, spread}
+use Rattle.bits.proofs.Cutting.{length-cut, length-spread, spread-cut, cut-spread}
+use lib.Dec.{eqb}
+use borrow.Author.Tests.{eqb-true, eq-eqb}
+use Rattle.rows.specs.Row.{Row, pick}
+use Rattle.rows.specs.Walk.{Outcome, done, refused, read, write, slots}
+use Rattle.rows.proofs.RoundTrip.{read-write, write-read, write-length, write-refused}
+use Rattle.records.specs.Answer.{Written, refusal, accepted, denied, written, answered, readRecord, writeRecord}
+use Rattle.records.specs.declared.Refusal.{Refusal}
+
+-- The values of a type are named views of a table's slots, as far as those were read from so much room.
+pub record View {A : Type 0} (rows : List Row) (room : ℕ) (numbersOf : A → List ℕ) (valueOf : List ℕ → A) : Type 0 where
+  pub sized : (a : A) → length (numbersOf a) ≡ slots rows
+  pub back : (a : A) → valueOf (numbersOf a) ≡ a
+  pub forth : (bs : List Bool) {vals : List ℕ} {end : ℕ} → length bs ≡ room → read rows bs ≡ done vals end → numbersOf (valueOf vals) ≡ vals
+
+-- The n numbers from slot i on, by name.
+abbrev pub from : ℕ → ℕ → List ℕ → List ℕ
+from i zero vals = []
+from i (suc n) vals = getD vals i 0 ∷ from (suc i) n vals
+
+from-drop : (i n : ℕ) (vals : List ℕ) → length vals ≡ i + n → from i n vals ≡ drop i vals
+from-drop i zero vals h = let all : length vals ≤ i = omega arith in sym (drop-of-length-le vals all)
+from-drop i (suc n) vals h = rw (drop-cons vals i 0 (omega arith), from-drop (suc i) n vals (omega arith))
+
+-- A list of n numbers is its n numbers by name.
+pub from-all : (n : ℕ) (vals : List ℕ) → length vals ≡ n → from 0 n vals ≡ vals
+from-all n vals h = from-drop 0 n vals (omega arith)
+
+module _ {A : Type 0} {rows : List Row} {room : ℕ} {numbersOf : A → List ℕ} {valueOf : List ℕ → A} (view : View rows room numbersOf valueOf) where
+  -- What was read, written again, is the same bytes.
+  pub view-read-write : (bytes : List ℕ) → 8 * length bytes ≡ room → ((i : ℕ) → getD bytes i 0 < 2 ^ 8) → {vals : List ℕ} {end : ℕ}
+      → read rows (spread 8 bytes) ≡ done vals end
+      → written bytes (write rows room (numbersOf (valueOf vals))) ≡ accepted bytes
+  view-read-write bytes whole small {vals} {end} h =
+      let same : numbersOf (valueOf vals) ≡ vals = view .forth (spread 8 bytes) (length-spread 8 bytes ∙ whole) h in
+      let again : write rows room vals ≡ done (spread 8 bytes) end =
+      rw (length-spread 8 bytes, whole) at (read-write rows (spread 8 bytes) h) in
+      rw (same, again, cut-spread 8 bytes small)
+
+  -- What was written, read again, is the same value.
+  pub view-write-read : (before : List ℕ) → 8 * length before ≡ room → (a : A) (after : List ℕ)
+      → written before (write rows room (numbersOf a)) ≡ accepted after
+      → (end : ℕ) × (read rows (spread 8 after) ≡ done (numbersOf a) end) × (length after ≡ length before)
+  view-write-read before whole a after = go (write rows room (numbersOf a)) refl
+    where
+      go : (o : Outcome (List Bool)) → write rows room (numbersOf a) ≡ o → written before o ≡ accepted after
+          → (end : ℕ) × (read rows (spread 8 after) ≡ done (numbersOf a) end) × (length after ≡ length before)
+      go (done bs end) e h =
+          let bytes : cut 8 8 (length before) bs ≡ after = ap (λ (w : Written). w .bytes) h in
+          let long : length bs ≡ 8 * length before = write-length rows room (numbersOf a) (view .sized a) e ∙ sym whole in
+          let bits : spread 8 after ≡ bs = rw (← bytes) (spread-cut 8 (length before) bs long) in
+          (end, rw bits (write-read rows room (numbersOf a) (view .sized a) e), rw (← bytes) (length-cut 8 8 (length before) bs))
+      go (refused n at i) e h = absurd (write-refused rows room (numbersOf a) e (ap (λ (w : Written). w .answer .number) h))
+
+module _ {A B : Type 0} (good : A → B) (bad : Refusal → B)
+    (same : (a b : A) → good a ≡ good b → a ≡ b)
+    (apart : (r : Refusal) (a : A) → bad r ≡ good a → ⊥)
+    {rows : List Row} {numbersOf : A → List ℕ} {valueOf : List ℕ → A} (view : View rows 232 numbersOf valueOf) where
+  -- A record that was read, written again, is the same bytes.
+  pub record-read-write : (bytes : List ℕ) (a : A) → ((i : ℕ) → getD bytes i 0 < 2 ^ 8)
+      → readRecord (λ vals. good (valueOf vals)) bad rows bytes ≡ good a
+      → writeRecord rows (numbersOf a) bytes ≡ accepted bytes
+  unfolding readRecord writeRecord
+  record-read-write bytes a small = go (eqb (length bytes) 29) refl (read rows (spread 8 bytes)) refl
+    where
+      go : (b : Bool) → eqb (length bytes) 29 ≡ b → (o : Outcome (List ℕ)) → read rows (spread 8 bytes) ≡ o
+          → pick b (answered (λ vals. good (valueOf vals)) bad o) (bad (refusal 1 0)) ≡ good a
+          → pick b (written bytes (write rows 232 (numbersOf a))) (denied 1 0 bytes) ≡ accepted bytes
+      go true l (done vals end) r h =
+          let long : length bytes ≡ 29 = eqb-true (length bytes) 29 l in
+          rw (same (valueOf vals) a h) at (view-read-write view bytes (rw long) small r)
+      go true l (refused n at i) r h = absurd (apart (refusal n at) a h)
+      go false l o r h = absurd (apart (refusal 1 0) a h)
+
+  -- A record that was written, read again, is the same value.
+  pub record-write-read : (before after : List ℕ) (a : A)
+      → writeRecord rows (numbersOf a) before ≡ accepted after
+      → readRecord (λ vals. good (valueOf vals)) bad rows after ≡ good a
+  unfolding readRecord writeRecord
+  record-write-read before after a = go (eqb (length before) 29) refl
+    where
+      go : (b : Bool) → eqb (length before) 29 ≡ b
+          → pick b (written before (write rows 232 (numbersOf a))) (denied 1 0 before) ≡ accepted after
+          → pick (eqb (length after) 29) (answered (λ vals. good (valueOf vals)) bad (read rows (spread 8 after))) (bad (refusal 1 0)) ≡ good a
+      go true l h =
+          let long : length before ≡ 29 = eqb-true (length before) 29 l in
+          let again = view-write-read view before (rw long) a after h in
+          rw (eq-eqb _ _ (again .2 ∙ long), again .1, view .back a)
+      go false l h = absurd (let one : _≡_ {A = ℕ} 1 0 = ap (λ (w : Written). w .answer .number) h in omega arith)

@@ -1,0 +1,34 @@
+-- Environment: what was read, written again, is the same bytes; what was written, read again, is the same value.
+use Prim.Native.Nat.{ℕ, _^_, _<_}
+use mathlib.Core.List.{List}
+use mathlib.Core.Path.{_≡_, refl}
+use native.Mathlib.Omega.{arith}
+use lib.ListN.{getD}
+use Rattle.rows.specs.table.Environment.{environment}
+use Rattle.rows.proofs.RoundTrip.{read-slots}
+use Rattle.records.specs.Answer.{accepted}
+use Rattle.records.specs.Environment.{numbersOf, environmentOf, environmentRead, environmentWritten}
+use Rattle.records.specs.declared.Refusal.{Refusal}
+use Rattle.records.specs.declared.environment.Environment.{Environment}
+use Rattle.records.specs.declared.environment.EnvironmentRead.the-variants.{Read, Refused}
+use Rattle.records.proofs.Inverse.{View, from-all, record-read-write, record-write-read}
+
+view : View environment 232 numbersOf environmentOf
+unfolding environment
+view = record { sized = λ e. refl; back = λ e. refl; forth = λ bs long h. from-all 10 _ (read-slots environment bs h) }
+
+same : (a b : Environment) → Read a ≡ Read b → a ≡ b
+same a b h = cc
+
+apart : (r : Refusal) (e : Environment) → Refused r ≡ Read e → ⊥
+apart r e h = let z : _≡_ {A = ℕ} 0 1 = cc in omega arith
+
+pub environment-read-write : (bytes : List ℕ) (e : Environment) → ((i : ℕ) → getD bytes i 0 < 2 ^ 8)
+    → environmentRead bytes ≡ Read e
+    → environmentWritten bytes e ≡ accepted bytes
+environment-read-write bytes e small h = record-read-write Read Refused same apart view bytes e small h
+
+pub environment-write-read : (before after : List ℕ) (e : Environment)
+    → environmentWritten before e ≡ accepted after
+    → environmentRead after ≡ Read e
+environment-write-read before after e h = record-write-read Read Refused same apart view before after e h
