@@ -6,3 +6,4 @@ pub mod Stepping
 pub mod Taking
 pub mod Giving
 pub mod Running
+pub mod Tables
