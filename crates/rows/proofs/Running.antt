@@ -3,12 +3,11 @@
 use Prim.Native.Nat.{ℕ, suc, _+_, _-_}
 use mathlib.Core.List.{List, [], _∷_, _++_, append-nil, append-assoc}
 use mathlib.Core.Bool.{Bool, true, false}
-use mathlib.Core.Path.{_≡_, refl, sym, ap, _∙_}
+use mathlib.Core.Path.{_≡_, refl, ap, _∙_}
 use native.Mathlib.Omega.{arith}
 use lib.Dec.{eqb}
-use lib.ListN.{length, take, drop, length-append, length-drop, take-append-drop}
-use lib.Seq.{drop-append-seam, length-take-le}
-use borrow.Author.Tests.{eqb-true}
+use lib.ListN.{length, take, drop, length-drop, take-append-drop}
+use lib.Seq.{drop-append-seam}
 use Rattle.bits.specs.Bits.{cut, zeros, leading}
 use Rattle.rows.specs.Row.{Row, pick, told}
 use Rattle.rows.specs.Walk.{Outcome, done, refused, andThen, walk, there, boxesAt, slotsOf, frameOn, frame, laidOn, slots, ending, read, write}

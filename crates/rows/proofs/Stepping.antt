@@ -2,13 +2,13 @@
 use Prim.Native.Nat.{ℕ, suc, _+_, _≤_, zero, _*_}
 use mathlib.Core.List.{List, [], _∷_, _++_, map}
 use mathlib.Core.Bool.{Bool, true, false}
-use mathlib.Core.Path.{_≡_, refl, sym, ap, _∙_}
+use mathlib.Core.Path.{_≡_, refl, ap}
 use native.Mathlib.Omega.{arith}
 use lib.Dec.{eqb, ltb}
 use lib.ListN.{length, replicate}
 use borrow.Author.Tests.{ltb-false, eqb-true, eqb-false}
 use Rattle.rows.specs.Row.{Row, Cond, pick, told, holds, broken}
-use Rattle.rows.specs.Walk.{Outcome, done, refused, andThen, Source, walk, field, total, there, exceeds, fault}
+use Rattle.rows.specs.Walk.{done, refused, andThen, Source, walk, field, total, there, exceeds, fault}
 use Rattle.rows.specs.Step.{settled, admitted, said, resume}
 use Rattle.rows.specs.declared.Cursor.{Cursor}
 use Rattle.rows.specs.declared.When.{When}

@@ -1,25 +1,23 @@
 -- What shows that a take of a field, of whatever boxes and rule, is the step that the field's row means.
 use Prim.Native.Nat.{ℕ, zero, suc, _+_, _-_, _*_, _/_, _%_, _^_, _≤_, _<_}
-use mathlib.Core.List.{List, [], _∷_, _++_, map, append-assoc}
+use mathlib.Core.List.{List, [], _∷_, _++_, append-assoc}
 use mathlib.Core.Bool.{Bool, true, false}
 use mathlib.Core.Path.{_≡_, refl, sym, ap, subst, _∙_}
 use native.Mathlib.Omega.{arith}
-use native.Mathlib.Nat.{lt-of-lt-of-le}
 use native.Mathlib.Numerals.{add-one}
-use lib.Dec.{eqb, ltb}
-use lib.Pow.{pow-mono}
-use lib.ListN.{length, take, drop, set, replicate, length-take, length-drop, take-append-drop}
-use lib.Seq.{length-take-le, drop-append-le, take-append-le, drop-drop, take-suc-set}
-use borrow.Author.Tests.{ltb-false, lt-ltb, eq-eqb, ne-eqb}
+use lib.Dec.{eqb}
+use lib.ListN.{length, take, drop, set, replicate, length-drop}
+use lib.Seq.{length-take-le, drop-drop, take-suc-set}
+use borrow.Author.Tests.{eq-eqb, ne-eqb}
 use Rattle.bits.specs.Bits.{number, numberAt, cut, leading}
 use Rattle.bits.proofs.Spelling.{number-lt}
 use Rattle.bits.proofs.Cutting.{number-at}
 use Rattle.bits.proofs.Fronts.{part, part-part, part-take}
 use Rattle.rows.proofs.Boxes.{numbers-fit}
 use Rattle.rows.proofs.Stepping.{admit-step, admitted-clear, admitted-within, admitted-number, there-one, there-same, total-same, box-width}
-use Rattle.rows.specs.Row.{Row, Cond, pick, told, holds, broken}
-use Rattle.rows.specs.Walk.{Source, total, there, exceeds, fault, numbers, boxesAt, ending}
-use Rattle.rows.specs.Step.{settled, admitted, resume, Ready, Took, Ended, Spells, lettersAt}
+use Rattle.rows.specs.Row.{pick, told, holds, broken}
+use Rattle.rows.specs.Walk.{total, there, numbers, boxesAt, ending}
+use Rattle.rows.specs.Step.{admitted, resume, Ready, Took, Ended, Spells, lettersAt}
 use Rattle.rows.specs.declared.Cursor.{Cursor}
 use Rattle.rows.specs.declared.When.{When}
 use Rattle.rows.specs.declared.Rule.{Rule}

@@ -1,5 +1,5 @@
 -- What bits that only rise do to the numbers of a table. Document 01, "Gate writes" and "What the contracts must say".
-use Prim.Native.Nat.{ℕ, zero, suc, _+_, _-_}
+use Prim.Native.Nat.{ℕ, suc, _+_, _-_}
 use mathlib.Core.List.{List, [], _∷_, _++_}
 use mathlib.Core.Bool.{Bool}
 use mathlib.Core.Path.{_≡_}

@@ -1,6 +1,6 @@
 -- A structure of the card is a table of rows in card order, and a row is one field: its boxes, when it is there,
 -- and its rule. The numbers of a table are a flat run of slots, one a box, zero where the field is absent.
-use Prim.Native.Nat.{ℕ, zero, suc, _+_, _/_, _%_, _^_}
+use Prim.Native.Nat.{ℕ, _/_, _^_}
 use mathlib.Core.List.{List, [], _∷_}
 use mathlib.Core.Bool.{Bool, true, false}
 use lib.Dec.{eqb, ltb}

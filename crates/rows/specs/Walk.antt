@@ -1,10 +1,10 @@
 -- What it means to read a table of rows from bits, and to write it. Document 01, "Boxes and bitmaps" and
 -- "Refusal numbers".
-use Prim.Native.Nat.{ℕ, zero, suc, _+_, _-_, _/_, _%_, _^_}
+use Prim.Native.Nat.{ℕ, suc, _+_, _-_, _^_}
 use mathlib.Core.List.{List, [], _∷_, _++_, map}
 use mathlib.Core.Bool.{Bool, true, false}
-use lib.Dec.{eqb, leb, ltb}
-use lib.ListN.{length, getD, take, drop}
+use lib.Dec.{eqb, ltb}
+use lib.ListN.{length, take, drop}
 use Rattle.bits.specs.Bits.{number, bitsOf, zeros, leading}
 use Rattle.rows.specs.Row.{Row, pick, told, holds, broken}
 use Rattle.rows.specs.declared.When.{When}

@@ -1,6 +1,5 @@
 -- Environment. Document 01, "Layouts"; 004 section 6.1. EnvData2 has no stated width: marked present it is
 -- refusal 3 at the EnvData bitmap, so that it needs no row.
-use Prim.Native.Nat.{ℕ}
 use mathlib.Core.List.{List, [], _∷_}
 use Rattle.rows.specs.Row.{Row, always, bit, box}
 use Rattle.rows.specs.declared.Rule.the-variants.{NoSecond}

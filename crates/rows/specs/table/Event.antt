@@ -1,6 +1,5 @@
 -- Event, of the journal and of the special events. Document 01, "Layouts" and "Numbers with a range"; 004 section 6.3.
 -- Element [17] is 240 bits wide and can never fit, so that its bit is refusal 2 both ways by itself.
-use Prim.Native.Nat.{ℕ}
 use mathlib.Core.List.{List, [], _∷_}
 use Rattle.rows.specs.Row.{Row, always, bit, box, boxMost, minute}
 

@@ -6,42 +6,33 @@ use borrow.Author.Needs.{needs}
 use Rattle.records.proofs.environment.read.Statement.{statement}
 use Rattle.records.proofs.environment.read.Tie as tie
 
--- src/environment.rt:44:9
 returns : tie.Need-returns
 returns c = record-short _ _ _ _ (c .if1 .taken)
 
--- src/environment.rt:47:24
 slice-aggregate-words : tie.Need-slice-aggregate-words
 slice-aggregate-words c = search needs
 
--- src/environment.rt:47:5
 words-requires : tie.Need-words-requires
 words-requires c κs = search needs
 
--- src/environment.rt:48:30
 slice-aggregate-take-fields : tie.Need-slice-aggregate-take-fields
 slice-aggregate-take-fields c = search needs
 
--- src/environment.rt:48:9
 take-fields-requires : tie.Need-take-fields-requires
 take-fields-requires c κs = search needs
 
--- src/environment.rt:50:25
 slice-aggregate-end : tie.Need-slice-aggregate-end
 slice-aggregate-end c = search needs
 
--- src/environment.rt:50:9
 end-requires : tie.Need-end-requires
 end-requires c κs = search needs
 
--- src/environment.rt:52:9
 returns-2 : tie.Need-returns-2
 returns-2 c = let bytes = c .before .before .before .before .before .before .before .before .before .before .before .before .args .bytes .now in
     let words = c .before .before .before .before .before .before .before .before .words2 .last .1 .0 in
     let cuts : words ≡ cut 32 63 (length words) (spread 8 bytes) = rw (c .before .before .before .before .before .before .before .before .words2 .kept .1 .0) (c .before .before .before .before .before .before .before .before .words2 .ensures) in
     record-refused _ _ _ bytes words _ _ _ (c .before .before .before .before .before .before .before .before .before .before .if1 .left) cuts (c .before .before .before .before .before .take-fields .ensures) (c .before .before .end .ensures) (c .if2 .taken)
 
--- src/environment.rt:40:1
 returns-3 : tie.Need-returns-3
 returns-3 c = let bytes = c .before .before .before .before .before .before .before .before .before .before .before .before .before .args .bytes .now in
     let words = c .before .before .before .before .before .before .before .before .before .words2 .last .1 .0 in

@@ -4,52 +4,37 @@ use Rattle.rows.specs.table.Environment.{environment}
 use borrow.Author.Needs.{needs}
 use Rattle.records.proofs.environment.take_fields.Statement.{statement}
 use Rattle.records.proofs.environment.take_fields.Tie as tie
-use Rattle.records.proofs.environment.take_fields.Reads as reads
-use Rattle.records.proofs.environment.take_fields.Lts as lts
-use Rattle.rows.proofs.take.env_data.Reads as env-data-reads
-use Rattle.rows.proofs.take.number.Reads as number-reads
 
--- src/environment.rt:63:9
 number-requires : tie.Need-number-requires
 number-requires c κs = (record { within = search needs; covered = rw (c .before .pre) (lit< tt) }, lit≤ tt)
 
--- src/environment.rt:64:9
 number-requires-2 : tie.Need-number-requires-2
 number-requires-2 c κs = (c .number .ensures .ready, lit≤ tt)
 
--- src/environment.rt:65:9
 number-requires-3 : tie.Need-number-requires-3
 number-requires-3 c κs = (c .number2 .ensures .ready, lit≤ tt)
 
--- src/environment.rt:66:9
 number-requires-4 : tie.Need-number-requires-4
 number-requires-4 c κs = (c .number3 .ensures .ready, lit≤ tt)
 
--- src/environment.rt:67:9
 number-requires-5 : tie.Need-number-requires-5
 number-requires-5 c κs = (c .number4 .ensures .ready, lit≤ tt)
 
--- src/environment.rt:68:9
 number-requires-6 : tie.Need-number-requires-6
 number-requires-6 c κs = (c .number5 .ensures .ready, lit≤ tt)
 
--- src/environment.rt:69:9
 number-requires-7 : tie.Need-number-requires-7
 number-requires-7 c κs = (c .number6 .ensures .ready, lit≤ tt)
 
--- src/environment.rt:70:9
 number-requires-8 : tie.Need-number-requires-8
 number-requires-8 c κs = (c .number7 .ensures .ready, lit≤ tt)
 
--- src/environment.rt:71:9
 env-data-requires : tie.Need-env-data-requires
 env-data-requires c κs = c .number8 .ensures .ready
 
--- src/environment.rt:72:9
 number-requires-9 : tie.Need-number-requires-9
 number-requires-9 c κs = (c .env-data .ensures .ready, lit≤ tt)
 
--- src/environment.rt:59:1
 returns : tie.Need-returns
 unfolding environment
 returns c =

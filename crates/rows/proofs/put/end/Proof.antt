@@ -2,23 +2,16 @@ use mathlib.Core.Path.{refl}
 use borrow.Author.Needs.{needs}
 use Rattle.rows.proofs.put.end.Statement.{statement}
 use Rattle.rows.proofs.put.end.Tie as tie
-use Rattle.rows.proofs.put.end.Reads as reads
-use Rattle.rows.proofs.put.end.Lts as lts
-use Rattle.bits.proofs.pack.Reads as pack-reads
 
--- src/put.rt:145:9
 pack-requires : tie.Need-pack-requires
 pack-requires c κs = search needs
 
--- src/put.rt:140:1
 same-length : tie.Need-same-length
 same-length c = search needs
 
--- src/put.rt:140:1
 returns : tie.Need-returns
 returns c = record { written = λ _. c .before .before .pack .ensures; kept = λ no. absurd (no (c .before .before .before .before .if1 .taken)) }
 
--- src/put.rt:140:1
 returns-2 : tie.Need-returns-2
 returns-2 c = record { written = λ ok. absurd (c .if1 .left ok); kept = λ _. refl }
 

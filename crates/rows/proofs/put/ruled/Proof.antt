@@ -4,46 +4,31 @@ use Rattle.rows.proofs.Giving.{gave-box, lays}
 use borrow.Author.Needs.{needs}
 use Rattle.rows.proofs.put.ruled.Statement.{statement}
 use Rattle.rows.proofs.put.ruled.Tie as tie
-use Rattle.rows.proofs.put.ruled.Reads as reads
-use Rattle.rows.proofs.put.ruled.Lts as lts
-use Rattle.bits.proofs.lay.Reads as lay-reads
-use Rattle.rows.proofs.put.wide.Reads as wide-reads
-use Rattle.rows.proofs.step.admit.Reads as admit-reads
-use Rattle.rows.proofs.step.ruled.Reads as ruled-reads
-use Rattle.rows.proofs.step.width.Reads as width-reads
 
--- src/put.rt:28:9
 width-requires : tie.Need-width-requires
 width-requires c κs = search needs
 
--- src/put.rt:29:9
 ruled-requires : tie.Need-ruled-requires
 ruled-requires c κs = search needs
 
--- src/put.rt:30:9
 wide-requires : tie.Need-wide-requires
 wide-requires c κs = box-width (c .before .before .before .args .when) (c .before .before .before .args .w) _ 32 (c .before .width .ensures) (c .before .before .before .pre .1)
 
--- src/put.rt:31:9
 admit-requires : tie.Need-admit-requires
 admit-requires c κs = search needs
 
--- src/put.rt:33:9
 lay-requires : tie.Need-lay-requires
 lay-requires c κs = let a = c .before .before .before .before .before .before .before .before .args in
     lays (a .draft .now) (a .room) (a .c) _ (a .v) _ _ _ (c .before .before .before .before .before .before .before .before .pre .0) (box-width (a .when) (a .w) _ 32 (c .before .before .before .before .before .before .width .ensures) (c .before .before .before .before .before .before .before .before .pre .1))
     (c .before .before .before .before .wide .ensures) (c .before .before .before .admit .ensures) (c .before .if1 .taken)
 
--- src/put.rt:24:1
 same-length : tie.Need-same-length
 same-length c = search needs
 
--- src/put.rt:24:1
 returns : tie.Need-returns
 returns c = gave-box _ _ _ _ _ _ _ _ _ _ _ _ (c .before .before .before .before .before .before .before .before .before .before .before .pre .0) (c .before .before .lay .kept .0) (c .before .before .before .before .before .before .before .before .before .width .ensures) (c .before .before .before .before .before .before .before .wide .ensures)
     (c .before .before .before .before .before .before .before .before .ruled .ensures) (c .before .before .before .before .before .before .admit .ensures) (λ ok. c .before .before .lay .ensures)
 
--- src/put.rt:24:1
 returns-2 : tie.Need-returns-2
 returns-2 c = gave-box _ _ _ _ _ _ _ _ _ _ _ _ (c .before .before .before .before .before .before .before .pre .0) refl (c .before .before .before .before .before .width .ensures) (c .before .before .before .wide .ensures)
     (c .before .before .before .before .ruled .ensures) (c .before .before .admit .ensures) (λ ok. absurd (c .if1 .left ok))

@@ -10,8 +10,6 @@ use Rattle.rows.specs.Row.{pick}
 use borrow.Author.Needs.{needs}
 use Rattle.rows.proofs.put.wide.Statement.{statement}
 use Rattle.rows.proofs.put.wide.Tie as tie
-use Rattle.rows.proofs.put.wide.Reads as reads
-use Rattle.rows.proofs.put.wide.Lts as lts
 
 -- A number is too wide where bits are left above its box.
 fits-shift : (v w : ℕ) → not (eqb (v / 2 ^ w) 0) ≡ pick (ltb v (2 ^ w)) false true
@@ -25,11 +23,9 @@ fits-shift v w = go (ltb v (2 ^ w)) refl
         omega (arith, ltb-false v (2 ^ w) e) in
         rw (ne-eqb (v / 2 ^ w) 0 above)
 
--- src/put.rt:20:5
 shr-result : tie.Need-shr-result
 shr-result c = search needs
 
--- src/put.rt:16:1
 returns : tie.Need-returns
 returns c = fits-shift (c .args .v) (c .args .w)
 

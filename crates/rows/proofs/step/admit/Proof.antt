@@ -4,34 +4,25 @@ use borrow.Author.Needs.{needs}
 use borrow.Author.Tests.{eq-eqb, ne-eqb, lt-ltb, le-ltb}
 use Rattle.rows.proofs.step.admit.Statement.{statement}
 use Rattle.rows.proofs.step.admit.Tie as tie
-use Rattle.rows.proofs.step.admit.Reads as reads
-use Rattle.rows.proofs.step.admit.Lts as lts
 
--- src/lib.rt:66:9
 returns : tie.Need-returns
 returns c = search (eq-eqb, ne-eqb, lt-ltb, le-ltb)
 
--- src/lib.rt:69:9
 returns-2 : tie.Need-returns-2
 returns-2 c = rw (eq-eqb _ _ (c .before .if1 .left), c .if2 .taken)
 
--- src/lib.rt:71:8
 sub-if3 : tie.Need-sub-if3
 sub-if3 c = search needs
 
--- src/lib.rt:72:9
 returns-3 : tie.Need-returns-3
 returns-3 c = let past : c .before .before .before .before .before .args .room < c .before .before .before .before .before .args .c .at + c .before .before .before .before .before .args .width = omega arith in rw (eq-eqb _ _ (c .before .before .before .if1 .left), c .before .before .if2 .left, lt-ltb _ _ past)
 
--- src/lib.rt:75:9
 returns-4 : tie.Need-returns-4
 returns-4 c = let a = c .before .before .before .before .before .before .args in let within : a .c .at + a .width ≤ a .room = omega arith in rw (eq-eqb _ _ (c .before .before .before .before .if1 .left), c .before .before .before .if2 .left, le-ltb _ _ within, ne-eqb _ _ (c .if4 .taken))
 
--- src/lib.rt:77:18
 add-t8 : tie.Need-add-t8
 add-t8 c = search needs
 
--- src/lib.rt:61:1
 returns-5 : tie.Need-returns-5
 returns-5 c = let a = c .before .before .before .before .before .before .before .args in let within : a .c .at + a .width ≤ a .room = omega arith in rw (eq-eqb _ _ (c .before .before .before .before .before .if1 .left), c .before .before .before .before .if2 .left, le-ltb _ _ within, eq-eqb _ _ (c .before .if4 .left))
 

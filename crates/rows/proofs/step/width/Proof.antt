@@ -7,50 +7,38 @@ use borrow.Author.Needs.{needs}
 use borrow.Author.Tests.{eq-eqb, ne-eqb, lt-ltb, le-ltb}
 use Rattle.rows.proofs.step.width.Statement.{statement}
 use Rattle.rows.proofs.step.width.Tie as tie
-use Rattle.rows.proofs.step.width.Reads as reads
-use Rattle.rows.proofs.step.width.Lts as lts
 
 past : (n e : ℕ) → n < 2 ^ 32 → 32 ≤ e → n / 2 ^ e ≡ 0
 past n e small far = div-eq-of-lt (lt-of-lt-of-le small (pow-mono far))
 
--- src/lib.rt:36:25
 enum-told : tie.Need-enum-told
 enum-told c = search needs
 
--- src/lib.rt:37:19
 enum-known-when : tie.Need-enum-known-when
 enum-known-when c = search needs
 
--- src/lib.rt:39:21
 shr-if2 : tie.Need-shr-if2
 shr-if2 c = search needs
 
--- src/lib.rt:44:21
 enum-known-when-2 : tie.Need-enum-known-when-2
 enum-known-when-2 c = search needs
 
--- src/lib.rt:32:1
 returns : tie.Need-returns
 returns c = search needs
 
--- src/lib.rt:32:1
 returns-2 : tie.Need-returns-2
 returns-2 c = rw (c .before .before .before .when .given .1, eq-eqb _ _ (c .if2 .taken))
 
--- src/lib.rt:32:1
 returns-3 : tie.Need-returns-3
 returns-3 c = rw (c .before .before .before .when .given .1, ne-eqb _ _ (c .if2 .left))
 
--- src/lib.rt:32:1
 returns-4 : tie.Need-returns-4
 returns-4 c = let small : c .before .before .when .given .0 .0 < 2 ^ 32 = omega (arith, c .before .known-told .given) in
     rw (c .before .before .when .given .1, past _ _ small (c .if1 .left))
 
--- src/lib.rt:32:1
 returns-5 : tie.Need-returns-5
 returns-5 c = rw (c .before .before .when2 .given .1, lt-ltb _ _ (c .if3 .taken))
 
--- src/lib.rt:32:1
 returns-6 : tie.Need-returns-6
 returns-6 c = rw (c .before .before .when2 .given .1, le-ltb _ _ (c .if3 .left))
 

@@ -4,33 +4,22 @@ use Rattle.rows.proofs.Stepping.{box-width}
 use borrow.Author.Needs.{needs}
 use Rattle.rows.proofs.take.ruled.Statement.{statement}
 use Rattle.rows.proofs.take.ruled.Tie as tie
-use Rattle.rows.proofs.take.ruled.Reads as reads
-use Rattle.rows.proofs.take.ruled.Lts as lts
-use Rattle.rows.proofs.step.admit.Reads as admit-reads
-use Rattle.bits.proofs.number.Reads as number-reads
-use Rattle.rows.proofs.step.ruled.Reads as ruled-reads
-use Rattle.rows.proofs.step.width.Reads as width-reads
 
--- src/lib.rt:85:9
 width-requires : tie.Need-width-requires
 width-requires c κs = search needs
 
--- src/lib.rt:86:9
 number-requires : tie.Need-number-requires
 number-requires c κs = let a = c .before .before .args in (
   omega (arith, c .before .before .pre .0 .within, c .before .before .pre .0 .covered),
   box-width (a .when) (a .w) _ 32 (c .width .ensures) (c .before .before .pre .1),
 )
 
--- src/lib.rt:87:9
 ruled-requires : tie.Need-ruled-requires
 ruled-requires c κs = search needs
 
--- src/lib.rt:88:5
 admit-requires : tie.Need-admit-requires
 admit-requires c κs = search needs
 
--- src/lib.rt:81:1
 returns : tie.Need-returns
 returns c = let a = c .before .before .before .before .before .args in
     took-box (a .words .now) (a .end) (a .c) (a .when) (a .w) (a .rule) _ _ _ _ (c .before .before .before .before .before .pre .0)

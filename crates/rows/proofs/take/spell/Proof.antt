@@ -15,9 +15,6 @@ use Rattle.rows.specs.Step.{lettersAt}
 use Rattle.rows.proofs.Taking.{spelt-more}
 use Rattle.rows.proofs.take.spell.Statement.{statement}
 use Rattle.rows.proofs.take.spell.Tie as tie
-use Rattle.rows.proofs.take.spell.Reads as reads
-use Rattle.rows.proofs.take.spell.Lts as lts
-use Rattle.bits.proofs.number.Reads as number-reads
 
 abbrev Inv-loop : tie.InvT-loop
 Inv-loop words at w letters₀ place₀ i₀ letters place i =
@@ -29,39 +26,31 @@ Inv-loop words at w letters₀ place₀ i₀ letters place i =
 abbrev μ-loop : tie.MeasureT-loop
 μ-loop words at w letters₀ place₀ i₀ letters place i = length letters₀ - i
 
--- src/take.rt:102:5
 loop-holds : tie.Need-loop-holds Inv-loop μ-loop
 loop-holds c = (search needs, refl, omega arith, rw sub-zero)
 
--- src/take.rt:103:22
 number-requires : tie.Need-number-requires Inv-loop μ-loop
 number-requires c κs = let a = c .before .before .before .before .args in
     let inside : a .w * c .before .loop .i ≤ a .w * length (a .letters .now) = mul-le-mul-left (a .w) (omega arith) in
     (omega (arith, c .before .before .before .before .pre .covered, c .before .loop .inv .2), c .before .before .before .before .pre .narrow)
 
--- src/take.rt:103:9
 mul-letters : tie.Need-mul-letters Inv-loop μ-loop
 mul-letters c = search needs
 
--- src/take.rt:103:9
 slice-write-letters : tie.Need-slice-write-letters Inv-loop μ-loop
 slice-write-letters c = search needs
 
--- src/take.rt:104:9
 add-place : tie.Need-add-place Inv-loop μ-loop
 add-place c = let a = c .before .before .before .before .before .args in
     let inside : a .w * (c .before .before .loop .i + 1) ≤ a .w * length (a .letters .now) = mul-le-mul-left (a .w) (omega arith) in
     omega (arith, c .before .before .before .before .before .pre .small, c .before .before .loop .inv .2)
 
--- src/take.rt:105:9
 add-i : tie.Need-add-i Inv-loop μ-loop
 add-i c = search needs
 
--- src/take.rt:102:5
 loop-less : tie.Need-loop-less Inv-loop μ-loop
 loop-less c = search needs
 
--- src/take.rt:102:5
 loop-again : tie.Need-loop-again Inv-loop μ-loop
 loop-again c = let a = c .before .before .before .before .before .args in
     let l = c .before .before .loop in
@@ -72,11 +61,9 @@ loop-again c = let a = c .before .before .before .before .before .args in
       rw (c .number .ensures) (spelt-more (a .words .now) (a .at) (a .w) (length (a .letters .now)) (l .letters) (l .i) (l .place) inside (l .inv .1) (l .inv .3)),
     )
 
--- src/take.rt:96:1
 same-length : tie.Need-same-length Inv-loop μ-loop
 same-length c = search needs
 
--- src/take.rt:96:1
 returns : tie.Need-returns Inv-loop μ-loop
 returns c = let l = c .before .loop in
     let a = c .before .before .before .before .args in

@@ -10,28 +10,19 @@ use Rattle.rows.proofs.Stepping.{box-width}
 use borrow.Author.Needs.{needs}
 use Rattle.rows.proofs.take.tariff.Statement.{statement}
 use Rattle.rows.proofs.take.tariff.Tie as tie
-use Rattle.rows.proofs.take.tariff.Reads as reads
-use Rattle.rows.proofs.take.tariff.Lts as lts
-use Rattle.bits.proofs.number.Reads as number-reads
-use Rattle.rows.proofs.step.admit.Reads as admit-reads
-use Rattle.rows.proofs.step.width.Reads as width-reads
 
--- src/take.rt:68:9
 width-requires : tie.Need-width-requires
 width-requires c κs = search needs
 
--- src/take.rt:69:9
 number-requires : tie.Need-number-requires
 number-requires c κs = let a = c .before .before .args in (
   omega (arith, c .before .before .pre .within, c .before .before .pre .covered),
   box-width (a .when) 16 _ 32 (c .width .ensures) (omega arith),
 )
 
--- src/take.rt:72:9
 admit-requires : tie.Need-admit-requires
 admit-requires c κs = search needs
 
--- src/take.rt:62:1
 returns : tie.Need-returns
 returns c = let n : c .before .if1 .broken ≡ pick (eqb (c .before .before .number .result % 16) 13) 4 0 =
     ⊎-elim (λ w. rw (w .1, eq-eqb _ _ (w .0 .taken))) (λ w. rw (w .1, ne-eqb _ _ (w .0 .left))) (c .before .if1 .came) in
