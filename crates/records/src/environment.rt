@@ -75,14 +75,8 @@ fn take_fields(words: &[u64]) -> Fields
     let pay_method = take::number(words, BITS, end_date, When::Bit(bitmap.number, 3), 11);
     let authenticator = take::number(words, BITS, pay_method, When::Bit(bitmap.number, 4), 16);
     let select_list = take::number(words, BITS, authenticator, When::Bit(bitmap.number, 5), 32);
-    let data_bitmap = take::env_data(words, BITS, select_list, When::Bit(bitmap.number, 6));
-    let card_status = take::number(
-        words,
-        BITS,
-        data_bitmap,
-        When::Bit(data_bitmap.number, 0),
-        1,
-    );
+    let data = take::env_data(words, BITS, select_list, When::Bit(bitmap.number, 6));
+    let card_status = take::number(words, BITS, data, When::Bit(data.number, 0), 1);
     Fields {
         value: Environment {
             version: version.number,
@@ -93,7 +87,7 @@ fn take_fields(words: &[u64]) -> Fields
             pay_method: pay_method.number,
             authenticator: authenticator.number,
             select_list: select_list.number,
-            data_bitmap: data_bitmap.number,
+            data_bitmap: data.number,
             card_status: card_status.number,
         },
         last: card_status,
@@ -129,48 +123,22 @@ fn put_fields(draft: &mut [u64], e: Environment) -> Cursor
     requires { ⌜ length (now draft) ≡ 9 ⌝ }
     ensures { λ d. ⌜ Puts 232 (numbersOf e) environment [] (now (draft .entry)) start (numbersOf e) (now (draft .exit)) d ⌝ }
 {
-    let version = put::number(draft, BITS, Cursor::START, When::Always, 6, e.version);
-    let bitmap = put::number(draft, BITS, version, When::Always, 7, e.bitmap);
-    let network = put::number(draft, BITS, bitmap, When::Bit(e.bitmap, 0), 24, e.network);
-    let issuer = put::number(draft, BITS, network, When::Bit(e.bitmap, 1), 8, e.issuer);
-    let end_date = put::number(draft, BITS, issuer, When::Bit(e.bitmap, 2), 14, e.end_date);
-    let pay_method = put::number(
+    let c = put::number(draft, BITS, Cursor::START, When::Always, 6, e.version);
+    let c = put::number(draft, BITS, c, When::Always, 7, e.bitmap);
+    let c = put::number(draft, BITS, c, When::Bit(e.bitmap, 0), 24, e.network);
+    let c = put::number(draft, BITS, c, When::Bit(e.bitmap, 1), 8, e.issuer);
+    let c = put::number(draft, BITS, c, When::Bit(e.bitmap, 2), 14, e.end_date);
+    let c = put::number(draft, BITS, c, When::Bit(e.bitmap, 3), 11, e.pay_method);
+    let c = put::number(draft, BITS, c, When::Bit(e.bitmap, 4), 16, e.authenticator);
+    let c = put::number(draft, BITS, c, When::Bit(e.bitmap, 5), 32, e.select_list);
+    let c = put::env_data(draft, BITS, c, When::Bit(e.bitmap, 6), e.data_bitmap);
+    let c = put::number(
         draft,
         BITS,
-        end_date,
-        When::Bit(e.bitmap, 3),
-        11,
-        e.pay_method,
-    );
-    let authenticator = put::number(
-        draft,
-        BITS,
-        pay_method,
-        When::Bit(e.bitmap, 4),
-        16,
-        e.authenticator,
-    );
-    let select_list = put::number(
-        draft,
-        BITS,
-        authenticator,
-        When::Bit(e.bitmap, 5),
-        32,
-        e.select_list,
-    );
-    let data_bitmap = put::env_data(
-        draft,
-        BITS,
-        select_list,
-        When::Bit(e.bitmap, 6),
-        e.data_bitmap,
-    );
-    put::number(
-        draft,
-        BITS,
-        data_bitmap,
+        c,
         When::Bit(e.data_bitmap, 0),
         1,
         e.card_status,
-    )
+    );
+    c
 }
