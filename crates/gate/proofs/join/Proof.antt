@@ -1,0 +1,34 @@
+use borrow.Author.Tests.{eq-eqb, ne-eqb}
+use mathlib.Core.Path.{ap, _∙_}
+use Rattle.records.specs.Answer.{accepted}
+use Rattle.gate.specs.Writes.{joining}
+use Rattle.gate.proofs.Bytewise.{back}
+use borrow.Author.Needs.{needs}
+use Rattle.gate.proofs.join.Statement.{statement}
+use Rattle.gate.proofs.join.Tie as tie
+
+returns : tie.Need-returns
+unfolding joining
+returns c = rw (ne-eqb _ _ (c .if1 .taken))
+
+returns-2 : tie.Need-returns-2
+unfolding joining
+returns-2 c = rw (eq-eqb _ _ (c .before .if1 .left), ne-eqb _ _ (c .if2 .taken))
+
+returns-3 : tie.Need-returns-3
+unfolding joining
+returns-3 c = rw (eq-eqb _ _ (c .before .before .if1 .left), eq-eqb _ _ (c .before .if2 .left), ne-eqb _ _ (c .if3 .taken))
+
+both-requires : tie.Need-both-requires
+both-requires c κs = search needs
+
+same-length : tie.Need-same-length
+same-length c = search needs
+
+returns-4 : tie.Need-returns-4
+unfolding joining
+returns-4 c = rw (eq-eqb _ _ (c .before .before .before .before .before .before .if1 .left), eq-eqb _ _ (c .before .before .before .before .before .if2 .left), eq-eqb _ _ (c .before .before .before .before .if3 .left))
+    (ap accepted (back _ _ (c .before .before .both .kept .1 .1 .0 ∙ c .before .before .before .before .if3 .left) (λ i. c .slice-known2 .given i .fits) (c .before .before .both .ensures)))
+
+pub join-spec : {M : Type 1} → statement M
+join-spec = tie.close (tie.spec returns returns-2 returns-3 both-requires same-length returns-4)
