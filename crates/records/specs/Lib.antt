@@ -1,2 +1,3 @@
 pub mod Answer
 pub mod Environment
+pub mod Event

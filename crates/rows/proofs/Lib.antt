@@ -7,3 +7,5 @@ pub mod Taking
 pub mod Giving
 pub mod Running
 pub mod Tables
+pub mod Wide
+pub mod Putting

@@ -1,0 +1,46 @@
+-- Event: what was read, written again, is the same bytes; what was written, read again, is the same value.
+use Prim.Native.Nat.{ℕ, _^_, _<_}
+use mathlib.Core.List.{List}
+use mathlib.Core.Bool.{Bool}
+use mathlib.Core.Path.{_≡_, refl}
+use native.Mathlib.Omega.{arith}
+use lib.ListN.{length, getD, take, drop}
+use Rattle.rows.specs.Row.{bit}
+use Rattle.rows.specs.Walk.{read, done}
+use Rattle.rows.specs.table.Event.{event}
+use Rattle.rows.specs.declared.Rule.the-variants.{Any}
+use Rattle.rows.proofs.RoundTrip.{read-slots}
+use Rattle.rows.proofs.Wide.{read-wide}
+use Rattle.records.specs.Answer.{accepted}
+use Rattle.records.specs.Event.{numbersOf, eventOf, eventRead, eventWritten}
+use Rattle.records.specs.declared.Refusal.{Refusal}
+use Rattle.records.specs.declared.event.Event.{Event}
+use Rattle.records.specs.declared.event.EventRead.the-variants.{Read, Refused}
+use Rattle.records.proofs.Inverse.{View, from-all, record-read-write, record-write-read}
+
+-- A record that was read has no element [17], so that its slot is zero.
+named : (bs : List Bool) {vals : List ℕ} {end : ℕ} → length bs ≡ 232 → read event bs ≡ done vals end → numbersOf (eventOf vals) ≡ vals
+unfolding event
+named bs {vals} long h =
+    let none : getD vals 20 0 ≡ 0 = read-wide 240 (bit 2 17) Any (drop 21 event) (take 20 event) bs (omega arith) h in
+    rw none at (from-all 36 vals (read-slots event bs h))
+
+view : View event 232 numbersOf eventOf
+unfolding event
+view = record { sized = λ e. refl; back = λ e. refl; forth = named }
+
+same : (a b : Event) → Read a ≡ Read b → a ≡ b
+same a b h = cc
+
+apart : (r : Refusal) (e : Event) → Refused r ≡ Read e → ⊥
+apart r e h = let z : _≡_ {A = ℕ} 0 1 = cc in omega arith
+
+pub event-read-write : (bytes : List ℕ) (e : Event) → ((i : ℕ) → getD bytes i 0 < 2 ^ 8)
+    → eventRead bytes ≡ Read e
+    → eventWritten bytes e ≡ accepted bytes
+event-read-write bytes e small h = record-read-write Read Refused same apart view bytes e small h
+
+pub event-write-read : (before after : List ℕ) (e : Event)
+    → eventWritten before e ≡ accepted after
+    → eventRead after ≡ Read e
+event-write-read before after e h = record-write-read Read Refused same apart view before after e h

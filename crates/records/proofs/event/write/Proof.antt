@@ -1,0 +1,50 @@
+use mathlib.Core.Path.{refl}
+use borrow.Author.Needs.{needs}
+use Rattle.rows.specs.table.Event.{event}
+use Rattle.records.proofs.Answering.{record-written, record-denied, record-unwritten}
+use Rattle.records.proofs.event.write.Statement.{statement}
+use Rattle.records.proofs.event.write.Tie as tie
+
+returns : tie.Need-returns
+unfolding event
+returns c = record-unwritten _ _ _ (c .if1 .taken)
+
+slice-aggregate-put-fields : tie.Need-slice-aggregate-put-fields
+slice-aggregate-put-fields c = search needs
+
+put-fields-requires : tie.Need-put-fields-requires
+put-fields-requires c κs = search needs
+
+slice-aggregate-end : tie.Need-slice-aggregate-end
+slice-aggregate-end c = search needs
+
+end-requires : tie.Need-end-requires
+end-requires c κs = search needs
+
+same-length : tie.Need-same-length
+same-length c = search needs
+
+returns-2 : tie.Need-returns-2
+unfolding event
+returns-2 c = record-written event _ _ _ _ _ _ _ (c .before .before .before .before .before .before .before .before .before .before .if1 .left) refl refl (c .before .before .before .before .before .before .before .before .put-fields .ensures) (c .before .before .before .before .end .ensures) (c .if2 .taken)
+
+same-length-2 : tie.Need-same-length-2
+same-length-2 c = search needs
+
+returns-3 : tie.Need-returns-3
+unfolding event
+returns-3 c = record-denied event _ _ _ _ _ _ _ (c .before .before .before .before .before .before .before .before .before .before .if1 .left) refl refl (c .before .before .before .before .before .before .before .before .put-fields .ensures) (c .before .before .before .before .end .ensures) (c .if2 .left)
+
+pub write-spec : {M : Type 1} → statement M
+write-spec =
+    tie.close
+    (tie.spec
+    returns
+    slice-aggregate-put-fields
+    put-fields-requires
+    slice-aggregate-end
+    end-requires
+    same-length
+    returns-2
+    same-length-2
+    returns-3)
