@@ -23,44 +23,65 @@ pub record View {A : Type 0} (rows : List Row) (room : ℕ) (numbersOf : A → L
   pub back : (a : A) → valueOf (numbersOf a) ≡ a
   pub forth : (bs : List Bool) {vals : List ℕ} {end : ℕ} → length bs ≡ room → read rows bs ≡ done vals end → numbersOf (valueOf vals) ≡ vals
 
--- The n numbers from slot i on, by name.
+-- The n elements of a list from i on, by name.
+module _ {A : Type 0} (d : A) where
+  abbrev pub named : ℕ → ℕ → List A → List A
+  named i zero l = []
+  named i (suc n) l = getD l i d ∷ named (suc i) n l
+
+  named-drop : (i n : ℕ) (l : List A) → length l ≡ i + n → named i n l ≡ drop i l
+  named-drop i zero l h = let all : length l ≤ i = omega arith in sym (drop-of-length-le l all)
+  named-drop i (suc n) l h = rw (drop-cons l i d (omega arith), named-drop (suc i) n l (omega arith))
+
+  -- A list of n elements is its n elements by name.
+  pub named-all : (n : ℕ) (l : List A) → length l ≡ n → named 0 n l ≡ l
+  named-all n l h = named-drop 0 n l (omega arith)
+
+-- The n numbers from slot i on.
 abbrev pub from : ℕ → ℕ → List ℕ → List ℕ
-from i zero vals = []
-from i (suc n) vals = getD vals i 0 ∷ from (suc i) n vals
+from i n vals = named 0 i n vals
 
-from-drop : (i n : ℕ) (vals : List ℕ) → length vals ≡ i + n → from i n vals ≡ drop i vals
-from-drop i zero vals h = let all : length vals ≤ i = omega arith in sym (drop-of-length-le vals all)
-from-drop i (suc n) vals h = rw (drop-cons vals i 0 (omega arith), from-drop (suc i) n vals (omega arith))
-
--- A list of n numbers is its n numbers by name.
 pub from-all : (n : ℕ) (vals : List ℕ) → length vals ≡ n → from 0 n vals ≡ vals
-from-all n vals h = from-drop 0 n vals (omega arith)
+from-all n vals h = named-all 0 n vals h
+
+module _ (rows : List Row) (room : ℕ) where
+  -- Numbers that were read, written again, are the same bytes.
+  pub slots-read-write : (bytes : List ℕ) → 8 * length bytes ≡ room → ((i : ℕ) → getD bytes i 0 < 2 ^ 8) → {vals : List ℕ} {end : ℕ}
+      → read rows (spread 8 bytes) ≡ done vals end
+      → written bytes (write rows room vals) ≡ accepted bytes
+  slots-read-write bytes whole small {vals} {end} h =
+      let again : write rows room vals ≡ done (spread 8 bytes) end =
+      rw (length-spread 8 bytes, whole) at (read-write rows (spread 8 bytes) h) in
+      rw (again, cut-spread 8 bytes small)
+
+  -- Numbers that were written, read again, are the same.
+  pub slots-write-read : (before : List ℕ) → 8 * length before ≡ room → (vals after : List ℕ) → length vals ≡ slots rows
+      → written before (write rows room vals) ≡ accepted after
+      → (end : ℕ) × (read rows (spread 8 after) ≡ done vals end) × (length after ≡ length before)
+  slots-write-read before whole vals after sized = go (write rows room vals) refl
+    where
+      go : (o : Outcome (List Bool)) → write rows room vals ≡ o → written before o ≡ accepted after
+          → (end : ℕ) × (read rows (spread 8 after) ≡ done vals end) × (length after ≡ length before)
+      go (done bs end) e h =
+          let bytes : cut 8 8 (length before) bs ≡ after = ap (λ (w : Written). w .bytes) h in
+          let long : length bs ≡ 8 * length before = write-length rows room vals sized e ∙ sym whole in
+          let bits : spread 8 after ≡ bs = rw (← bytes) (spread-cut 8 (length before) bs long) in
+          (end, rw bits (write-read rows room vals sized e), rw (← bytes) (length-cut 8 8 (length before) bs))
+      go (refused n at i) e h = absurd (write-refused rows room vals e (ap (λ (w : Written). w .answer .number) h))
 
 module _ {A : Type 0} {rows : List Row} {room : ℕ} {numbersOf : A → List ℕ} {valueOf : List ℕ → A} (view : View rows room numbersOf valueOf) where
   -- What was read, written again, is the same bytes.
   pub view-read-write : (bytes : List ℕ) → 8 * length bytes ≡ room → ((i : ℕ) → getD bytes i 0 < 2 ^ 8) → {vals : List ℕ} {end : ℕ}
       → read rows (spread 8 bytes) ≡ done vals end
       → written bytes (write rows room (numbersOf (valueOf vals))) ≡ accepted bytes
-  view-read-write bytes whole small {vals} {end} h =
-      let same : numbersOf (valueOf vals) ≡ vals = view .forth (spread 8 bytes) (length-spread 8 bytes ∙ whole) h in
-      let again : write rows room vals ≡ done (spread 8 bytes) end =
-      rw (length-spread 8 bytes, whole) at (read-write rows (spread 8 bytes) h) in
-      rw (same, again, cut-spread 8 bytes small)
+  view-read-write bytes whole small h =
+      rw (view .forth (spread 8 bytes) (length-spread 8 bytes ∙ whole) h) (slots-read-write rows room bytes whole small h)
 
   -- What was written, read again, is the same value.
   pub view-write-read : (before : List ℕ) → 8 * length before ≡ room → (a : A) (after : List ℕ)
       → written before (write rows room (numbersOf a)) ≡ accepted after
       → (end : ℕ) × (read rows (spread 8 after) ≡ done (numbersOf a) end) × (length after ≡ length before)
-  view-write-read before whole a after = go (write rows room (numbersOf a)) refl
-    where
-      go : (o : Outcome (List Bool)) → write rows room (numbersOf a) ≡ o → written before o ≡ accepted after
-          → (end : ℕ) × (read rows (spread 8 after) ≡ done (numbersOf a) end) × (length after ≡ length before)
-      go (done bs end) e h =
-          let bytes : cut 8 8 (length before) bs ≡ after = ap (λ (w : Written). w .bytes) h in
-          let long : length bs ≡ 8 * length before = write-length rows room (numbersOf a) (view .sized a) e ∙ sym whole in
-          let bits : spread 8 after ≡ bs = rw (← bytes) (spread-cut 8 (length before) bs long) in
-          (end, rw bits (write-read rows room (numbersOf a) (view .sized a) e), rw (← bytes) (length-cut 8 8 (length before) bs))
-      go (refused n at i) e h = absurd (write-refused rows room (numbersOf a) e (ap (λ (w : Written). w .answer .number) h))
+  view-write-read before whole a after h = slots-write-read rows room before whole (numbersOf a) after (view .sized a) h
 
 module _ {A B : Type 0} (good : A → B) (bad : Refusal → B)
     (same : (a b : A) → good a ≡ good b → a ≡ b)

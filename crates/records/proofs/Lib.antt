@@ -1,2 +1,5 @@
 pub mod Answering
 pub mod Inverse
+pub mod Ruling
+pub mod Listing
+pub mod Relisting

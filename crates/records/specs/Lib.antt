@@ -1,3 +1,7 @@
 pub mod Answer
 pub mod Environment
 pub mod Event
+pub mod Rules
+pub mod Listing
+pub mod List
+pub mod Special

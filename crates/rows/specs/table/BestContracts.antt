@@ -6,7 +6,7 @@ use Rattle.rows.specs.Row.{Row, always, bit, above, box, boxMost}
 use Rattle.rows.specs.declared.Rule.the-variants.{Tariff}
 
 -- Entry k: its bitmap, network, tariff and pointer.
-abbrev entry : ℕ → List Row
+abbrev pub entry : ℕ → List Row
 entry k =
     let slot : ℕ = 1 + 6 * k in
     box 3 (above 0 k)

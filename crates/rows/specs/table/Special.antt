@@ -5,7 +5,7 @@ use mathlib.Core.List.{List, [], _∷_, _++_}
 use Rattle.rows.specs.Row.{Row, always, bit, above, box, boxMost}
 
 -- Entry k: its bitmap, network, provider, seriousness and pointer.
-abbrev entry : ℕ → List Row
+abbrev pub entry : ℕ → List Row
 entry k =
     let slot : ℕ = 1 + 5 * k in
     box 4 (above 0 k)
