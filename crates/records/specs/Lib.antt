@@ -1,4 +1,5 @@
 pub mod Answer
+pub mod Contract
 pub mod Environment
 pub mod Event
 pub mod Rules

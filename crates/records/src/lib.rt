@@ -1,4 +1,5 @@
 // The records of a card as values: each structure is read from lent bytes and written to them.
+pub mod contract;
 pub mod environment;
 pub mod event;
 pub mod list;

@@ -1,0 +1,3 @@
+pub mod Absent
+pub mod Laws
+pub mod Writing
