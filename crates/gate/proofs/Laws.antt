@@ -17,7 +17,7 @@ use Rattle.gate.specs.Writes.{applied, only, writesOf, applying, finding
 use Rattle.gate.proofs.Bytewise.{length-only}
 
 -- A bit of two strings joined is one where it is in either.
-join-at : (xs ys : List Bool) (i : ℕ) → length ys ≡ length xs → getD (join xs ys) i false ≡ getD xs i false || getD ys i false
+pub join-at : (xs ys : List Bool) (i : ℕ) → length ys ≡ length xs → getD (join xs ys) i false ≡ getD xs i false || getD ys i false
 join-at [] [] i e = refl
 join-at [] (y ∷ ys) i e = absurd (omega arith)
 join-at (x ∷ xs) [] i e = absurd (omega arith)
@@ -69,7 +69,7 @@ applied-append bs [] vs = refl
 applied-append bs (w ∷ ws) vs = applied-append (join bs w) ws vs
 
 -- What an accepted call leaves, as bits.
-accepted-call : (bytes c : List ℕ) → applying bytes c .answer .number ≡ 0
+pub accepted-call : (bytes c : List ℕ) → applying bytes c .answer .number ≡ 0
     → (length bytes ≡ 29) × (length c % 29 ≡ 0) × (length (applying bytes c .bytes) ≡ 29)
     × (spread 8 (applying bytes c .bytes) ≡ applied (spread 8 bytes) (writesOf (length c / 29) c))
 unfolding applying
@@ -127,7 +127,7 @@ bit-after-calls bytes calls i long all =
     ap (λ (l : List Bool). getD l i false) (calls-apply bytes calls all)
     ∙ bit-after-writes (spread 8 bytes) (writesIn calls) i (rw room (sized-calls bytes calls all))
 
-getD-zeros : (i n : ℕ) → getD (zeros n) i false ≡ false
+pub getD-zeros : (i n : ℕ) → getD (zeros n) i false ≡ false
 getD-zeros i zero = refl
 getD-zeros zero (suc n) = refl
 getD-zeros (suc i) (suc n) = getD-zeros i n

@@ -1,2 +1,4 @@
 pub mod Bytewise
 pub mod Laws
+pub mod Raised
+pub mod Contracts
