@@ -1,9 +1,9 @@
 -- What operations answer, and what they leave in the bytes lent to them. Document 01, "Refusal numbers".
-use Prim.Native.Nat.{ℕ}
-use mathlib.Core.Bool.{Bool}
-use mathlib.Core.List.{List}
+use Prim.Native.Nat.{ℕ, zero, suc, _*_}
+use mathlib.Core.Bool.{Bool, true}
+use mathlib.Core.List.{List, [], _∷_}
 use lib.Dec.{eqb}
-use lib.ListN.{length}
+use lib.ListN.{length, getD}
 use Rattle.bits.specs.Bits.{cut, spread}
 use Rattle.rows.specs.Row.{Row, pick}
 use Rattle.rows.specs.Walk.{Outcome, done, refused, read, write}
@@ -44,3 +44,26 @@ readRecord good bad rows bytes =
 unfoldable pub writeRecord : List Row → List ℕ → List ℕ → Written
 writeRecord rows vals before =
     pick (eqb (length before) 29) (written before (write rows 232 vals)) (denied 1 0 before)
+
+-- An area is 1 to 4 records handed over together.
+unfoldable pub areaLength : ℕ → Bool
+areaLength n = pick (eqb n 29) true (pick (eqb n 58) true (pick (eqb n 87) true (eqb n 116)))
+
+-- Reading a table from an area.
+unfoldable pub readArea : {A : Type 0} → (List ℕ → A) → (Refusal → A) → List Row → List ℕ → A
+readArea good bad rows bytes =
+    pick (areaLength (length bytes)) (answered good bad (read rows (spread 8 bytes))) (bad (refusal 1 0))
+
+-- Writing a table to an area.
+unfoldable pub writeArea : List Row → List ℕ → List ℕ → Written
+writeArea rows vals before =
+    pick (areaLength (length before)) (written before (write rows (8 * length before) vals)) (denied 1 0 before)
+
+-- The n elements of a list from i on, by name; d past the end.
+abbrev pub named : {A : Type 0} → A → ℕ → ℕ → List A → List A
+named d i zero l = []
+named d i (suc n) l = getD l i d ∷ named d (suc i) n l
+
+-- The n numbers from slot i on.
+abbrev pub from : ℕ → ℕ → List ℕ → List ℕ
+from i n vals = named 0 i n vals

@@ -5,6 +5,7 @@ pub mod event;
 pub mod list;
 mod rules;
 pub mod special;
+pub mod holder;
 
 // Why an operation refused, and where: 0 and 0 where it accepted.
 pub struct Refusal {

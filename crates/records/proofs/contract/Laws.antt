@@ -13,7 +13,7 @@ use Rattle.rows.specs.Row.{pick}
 use Rattle.rows.specs.Walk.{Outcome, done, refused, andThen, read, write}
 use Rattle.rows.specs.table.Contract.{head, data42, data50, contract42, contract50}
 use Rattle.rows.proofs.RoundTrip.{read-slots, write-refused}
-use Rattle.records.specs.Answer.{Written, refusal, accepted, denied, written, answered, readRecord, writeRecord}
+use Rattle.records.specs.Answer.{Written, refusal, accepted, denied, written, answered, readRecord, writeRecord, from}
 use Rattle.records.specs.Contract.{data42Of, data50Of, numbers42, numbers50, headNumbers, withData, isCarnet, isUrban, tableOf, follow, contractOf, known, contractRead, suit, agrees, carnet, urban, numbersOf, disagreement, contractWritten}
 use Rattle.records.specs.declared.Refusal.{Refusal}
 use Rattle.records.specs.declared.contract.Data.{Data}
@@ -21,7 +21,7 @@ use Rattle.records.specs.declared.contract.Data.the-variants.{Nothing, C
 use Rattle.records.specs.declared.contract.Contract.{Contract}
 use Rattle.records.specs.declared.contract.ContractRead.{ContractRead}
 use Rattle.records.specs.declared.contract.ContractRead.the-variants.{Read, Refused}
-use Rattle.records.proofs.Inverse.{View, from, from-all, record-read-write, record-write-read}
+use Rattle.records.proofs.Inverse.{View, from-all, record-read-write, record-write-read}
 use Rattle.records.proofs.contract.Absent.{zeroSlots, absent, read-absent}
 use Rattle.records.proofs.contract.Writing.{contract-sized}
 
