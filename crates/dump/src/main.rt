@@ -2,9 +2,9 @@
 ghost use Prim.Native.Nat.{_≤_, _<_};
 ghost use lib.ListN.{length};
 use libc::STDOUT_FILENO;
-use records::list;
-use records::list::ContractList;
-use records::list::Entry;
+use lists::list;
+use lists::list::ContractList;
+use lists::list::Entry;
 
 // The most input that is taken.
 const MOST: usize = 64000;

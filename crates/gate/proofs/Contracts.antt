@@ -20,11 +20,11 @@ use Rattle.rows.specs.declared.Rule.the-variants.{Any, Most, Tariff, NoSecond}
 use Rattle.rows.specs.table.Contract.{head, data42, data50, contract42, contract50}
 use Rattle.rows.proofs.Boxes.{total-append}
 use Rattle.records.specs.Answer.{refusal, answered, readRecord}
-use Rattle.records.specs.Contract.{tableOf, contractOf, known, contractRead}
+use Rattle.contract.specs.Contract.{tableOf, contractOf, known, contractRead}
 use Rattle.records.specs.declared.Refusal.{Refusal}
-use Rattle.records.specs.declared.contract.Contract.{Contract}
-use Rattle.records.specs.declared.contract.ContractRead.{ContractRead}
-use Rattle.records.specs.declared.contract.ContractRead.the-variants.{Read, Refused}
+use Rattle.contract.specs.declared.Contract.{Contract}
+use Rattle.contract.specs.declared.ContractRead.{ContractRead}
+use Rattle.contract.specs.declared.ContractRead.the-variants.{Read, Refused}
 use Rattle.gate.specs.Writes.{applying, called, AllAccepted, writesIn}
 use Rattle.gate.proofs.Laws.{accepted-call}
 use Rattle.gate.proofs.Raised.{AllSpare, together, calls-raise}

@@ -1,11 +1,6 @@
 // The records of a card as values: each structure is read from lent bytes and written to them.
-pub mod contract;
 pub mod environment;
 pub mod event;
-pub mod list;
-mod rules;
-pub mod special;
-pub mod holder;
 
 // Why an operation refused, and where: 0 and 0 where it accepted.
 pub struct Refusal {

@@ -1,0 +1,280 @@
+-- Contract as a value: the numbers of the head, and the data that follow it: none, those of 42h or those of 50h. Document 01,
+-- "Contract, common head".
+use Prim.Native.Nat.{ℕ, _/_, _^_}
+use mathlib.Core.Bool.{Bool, true, false, not, _&&_, _||_}
+use mathlib.Core.List.{List, [], _∷_, _++_}
+use mathlib.Core.Path.{_≡_}
+use lib.Dec.{eqb}
+use lib.ListN.{length, getD}
+use Rattle.bits.specs.Bits.{odd}
+use Rattle.rows.specs.Row.{Row, pick}
+use Rattle.rows.specs.Walk.{andThen, refused, write}
+use Rattle.rows.specs.Line.{start, Taken, Puts}
+use Rattle.rows.specs.declared.Cursor.{Cursor}
+use Rattle.rows.specs.table.Contract.{head, contract42, contract50}
+use Rattle.records.specs.Answer.{Written, refusal, denied, written, readRecord, writeRecord}
+use Rattle.contract.specs.declared.Data42.{Data42}
+use Rattle.contract.specs.declared.Data50.{Data50}
+use Rattle.contract.specs.declared.Data.{Data}
+use Rattle.contract.specs.declared.Data.the-variants.{Nothing, Carnet, Urban}
+use Rattle.contract.specs.declared.Contract.{Contract}
+use Rattle.contract.specs.declared.ContractRead.{ContractRead}
+use Rattle.contract.specs.declared.ContractRead.the-variants.{Read, Refused}
+
+-- The numbers of the head behind its bitmap.
+abbrev pub behind : Contract → List ℕ
+behind c =
+    c .provider
+    ∷ c .tariff
+    ∷ c .serial
+    ∷ c .class
+    ∷ c .«validity_bitmap»
+    ∷ c .«start_date»
+    ∷ c .«end_date»
+    ∷ c .status
+    ∷ []
+
+-- The numbers of the head, in the order of its slots.
+abbrev pub headNumbers : Contract → List ℕ
+headNumbers c = c .bitmap ∷ behind c
+
+-- The numbers of the data of 42h.
+abbrev pub numbers42 : Data42 → List ℕ
+numbers42 d =
+    d .«pay_method»
+    ∷ d .price
+    ∷ d .«sale_date»
+    ∷ d .«sale_minute»
+    ∷ d .agent
+    ∷ d .device
+    ∷ d .receipt
+    ∷ d .passengers
+    ∷ d .«inhibition_end»
+    ∷ []
+
+-- The numbers of the data of 50h.
+abbrev pub numbers50 : Data50 → List ℕ
+numbers50 d =
+    d .«end_date»
+    ∷ d .«grey_list»
+    ∷ d .chrono
+    ∷ d .flag
+    ∷ d .bitmap
+    ∷ d .agent
+    ∷ d .origin
+    ∷ d .destination
+    ∷ d .via
+    ∷ d .token1
+    ∷ d .token2
+    ∷ d .«autoload_start»
+    ∷ d .«autoload_end»
+    ∷ d .balance
+    ∷ d .«last_debit»
+    ∷ d .purse
+    ∷ d .debit
+    ∷ d .passengers
+    ∷ d .«period_end»
+    ∷ d .«period_balance»
+    ∷ d .zone1
+    ∷ d .zone2
+    ∷ d .zone3
+    ∷ d .sections
+    ∷ d .«sections_left»
+    ∷ d .stop1
+    ∷ d .stop2
+    ∷ d .stop3
+    ∷ d .stop4
+    ∷ d .line1
+    ∷ d .line2
+    ∷ d .weekly
+    ∷ d .«start_date»
+    ∷ d .«end_minute»
+    ∷ d .token
+    ∷ d .intermodal
+    ∷ []
+
+-- The data of 42h stand behind the nine slots of the head.
+abbrev pub data42Of : List ℕ → Data42
+data42Of vals =
+    record {
+      «pay_method» = getD vals 9 0;
+      price = getD vals 10 0;
+      «sale_date» = getD vals 11 0;
+      «sale_minute» = getD vals 12 0;
+      agent = getD vals 13 0;
+      device = getD vals 14 0;
+      receipt = getD vals 15 0;
+      passengers = getD vals 16 0;
+      «inhibition_end» = getD vals 17 0;
+    }
+
+-- So do those of 50h.
+abbrev pub data50Of : List ℕ → Data50
+data50Of vals =
+    record {
+      «end_date» = getD vals 9 0;
+      «grey_list» = getD vals 10 0;
+      chrono = getD vals 11 0;
+      flag = getD vals 12 0;
+      bitmap = getD vals 13 0;
+      agent = getD vals 14 0;
+      origin = getD vals 15 0;
+      destination = getD vals 16 0;
+      via = getD vals 17 0;
+      token1 = getD vals 18 0;
+      token2 = getD vals 19 0;
+      «autoload_start» = getD vals 20 0;
+      «autoload_end» = getD vals 21 0;
+      balance = getD vals 22 0;
+      «last_debit» = getD vals 23 0;
+      purse = getD vals 24 0;
+      debit = getD vals 25 0;
+      passengers = getD vals 26 0;
+      «period_end» = getD vals 27 0;
+      «period_balance» = getD vals 28 0;
+      zone1 = getD vals 29 0;
+      zone2 = getD vals 30 0;
+      zone3 = getD vals 31 0;
+      sections = getD vals 32 0;
+      «sections_left» = getD vals 33 0;
+      stop1 = getD vals 34 0;
+      stop2 = getD vals 35 0;
+      stop3 = getD vals 36 0;
+      stop4 = getD vals 37 0;
+      line1 = getD vals 38 0;
+      line2 = getD vals 39 0;
+      weekly = getD vals 40 0;
+      «start_date» = getD vals 41 0;
+      «end_minute» = getD vals 42 0;
+      token = getD vals 43 0;
+      intermodal = getD vals 44 0;
+    }
+
+-- A contract of the head's slots, with no data.
+abbrev pub headOf : List ℕ → Contract
+headOf vals =
+    record {
+      bitmap = getD vals 0 0;
+      provider = getD vals 1 0;
+      tariff = getD vals 2 0;
+      serial = getD vals 3 0;
+      class = getD vals 4 0;
+      «validity_bitmap» = getD vals 5 0;
+      «start_date» = getD vals 6 0;
+      «end_date» = getD vals 7 0;
+      status = getD vals 8 0;
+      «data» = Nothing;
+    }
+
+-- The head of a contract with these data.
+abbrev pub withData : Contract → Data → Contract
+withData c d =
+    record {
+      bitmap = c .bitmap;
+      provider = c .provider;
+      tariff = c .tariff;
+      serial = c .serial;
+      class = c .class;
+      «validity_bitmap» = c .«validity_bitmap»;
+      «start_date» = c .«start_date»;
+      «end_date» = c .«end_date»;
+      status = c .status;
+      «data» = d;
+    }
+
+-- The type 42h.
+abbrev pub isCarnet : ℕ → Bool
+isCarnet kind = eqb kind 66
+
+-- The type 50h.
+abbrev pub isUrban : ℕ → Bool
+isUrban kind = eqb kind 80
+
+-- The table of a type.
+abbrev pub tableOf : ℕ → List Row
+tableOf kind = pick (isCarnet kind) contract42 contract50
+
+-- Bit [6] of the head's bitmap says that the data follow.
+abbrev pub follow : ℕ → Bool
+follow bitmap = odd (bitmap / 2 ^ 6)
+
+-- The data of a type, where they follow.
+abbrev pub dataOf : ℕ → List ℕ → Data
+dataOf kind vals =
+    pick (follow (getD vals 0 0)) (pick (isCarnet kind) (Carnet (data42Of vals)) (Urban (data50Of vals))) Nothing
+
+-- A contract of the slots of its type's table.
+abbrev pub contractOf : ℕ → List ℕ → Contract
+contractOf kind vals = withData (headOf vals) (dataOf kind vals)
+
+-- The types that there are.
+abbrev pub known : ℕ → Bool
+known kind = isCarnet kind || isUrban kind
+
+-- Refusal 1 for the length comes first, then 3 for the type.
+abbrev pub checked : {A : Type 0} → ℕ → List ℕ → A → (ℕ → A) → A
+checked kind bytes go stop = pick (eqb (length bytes) 29) (pick (known kind) go (stop 3)) (stop 1)
+
+-- Reading a contract under a type.
+abbrev pub contractRead : ℕ → List ℕ → ContractRead
+contractRead kind bytes =
+    checked kind bytes (readRecord (λ vals. Read (contractOf kind vals)) Refused (tableOf kind) bytes) (λ n. Refused (refusal n 0))
+
+-- Data agree with bit [6] and the type: none where it is zero, those of the type where it is one.
+abbrev pub suit : ℕ → Bool → Data → Bool
+suit kind there Nothing = not there
+suit kind there (Carnet d) = there && isCarnet kind
+suit kind there (Urban d) = there && isUrban kind
+
+-- Whether the data of a contract agree.
+abbrev pub agrees : ℕ → Contract → Bool
+agrees kind c = suit kind (follow (c .bitmap)) (c .«data»)
+
+-- The data to write under 42h: zeros where there are none.
+abbrev pub carnet : Data → Data42
+carnet Nothing = data42Of []
+carnet (Carnet d) = d
+carnet (Urban d) = data42Of []
+
+-- And under 50h.
+abbrev pub urban : Data → Data50
+urban Nothing = data50Of []
+urban (Carnet d) = data50Of []
+urban (Urban d) = d
+
+-- The numbers to write under a type: the head's, then those of the data.
+abbrev pub numbersOf : ℕ → Contract → List ℕ
+numbersOf kind c = headNumbers c ++ pick (isCarnet kind) (numbers42 (carnet (c .«data»))) (numbers50 (urban (c .«data»)))
+
+-- Data that do not agree: 7 at the first bit after the head, if the head has no fault.
+abbrev pub disagreement : Contract → List ℕ → Written
+disagreement c before = written before (andThen (write head 232 (headNumbers c)) (λ bs end. refused 7 end 9))
+
+-- Writing a contract under a type.
+abbrev pub contractWritten : ℕ → Contract → List ℕ → Written
+contractWritten kind c before =
+    checked kind before
+    (pick (agrees kind c) (writeRecord (tableOf kind) (numbersOf kind c) before) (disagreement c before))
+    (λ n. denied n 0 before)
+
+-- The takes of a contract of a type: they took the numbers of its table, and the value is made of these.
+pub record TakenOf (words : List ℕ) (kind : ℕ) (value : Contract) (last : Cursor) : Type 0 where
+  pub all : List ℕ
+  pub taken : Taken words 232 (tableOf kind) [] start all last
+  pub made : contractOf kind all ≡ value
+
+-- A cursor behind the head, where the data do not agree.
+abbrev pub disagreed : Cursor → Cursor
+disagreed e = pick (eqb (e .why) 0) (record { at = e .at; why = 7; number = 0 }) e
+
+-- The puts of the head alone, for data that do not agree.
+pub record PutHead (c : Contract) (xs : List ℕ) (d : Cursor) : Type 0 where
+  pub draft : List ℕ
+  pub last : Cursor
+  pub puts : Puts 232 (headNumbers c) head [] xs start (headNumbers c) draft last
+  pub stops : d ≡ disagreed last
+
+-- The puts of a contract under a type.
+pub record PutOf (kind : ℕ) (c : Contract) (xs ys : List ℕ) (d : Cursor) : Type 0 where
+  pub agreed : agrees kind c ≡ true → Puts 232 (numbersOf kind c) (tableOf kind) [] xs start (numbersOf kind c) ys d
+  pub opposed : agrees kind c ≡ false → PutHead c xs d

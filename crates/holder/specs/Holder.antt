@@ -1,0 +1,181 @@
+-- Holder as a value: named numbers, in the order of the table's slots. A text is a list of its letters.
+use Prim.Native.Nat.{ℕ, _+_}
+use mathlib.Core.List.{List, [], _∷_, _++_}
+use mathlib.Core.Path.{_≡_}
+use lib.ListN.{length, getD, take, drop}
+use Rattle.rows.specs.Row.{Row}
+use Rattle.rows.specs.Step.{Took, Gave}
+use Rattle.rows.specs.table.Holder.{holder}
+use Rattle.rows.specs.declared.Cursor.{Cursor}
+use Rattle.rows.specs.declared.When.the-variants.{Bit, Above}
+use Rattle.rows.specs.declared.Rule.the-variants.{Any}
+use Rattle.records.specs.Answer.{Written, refusal, readArea, writeArea, from}
+use Rattle.records.specs.declared.Refusal.{Refusal}
+use Rattle.holder.specs.declared.Holder.{Holder}
+use Rattle.holder.specs.declared.HolderRead.{HolderRead}
+use Rattle.holder.specs.declared.Person.{Person}
+use Rattle.holder.specs.declared.Identity.{Identity}
+use Rattle.holder.specs.declared.Profile.{Profile}
+use Rattle.holder.specs.declared.Data.{Data}
+
+-- The n rows from row i on.
+abbrev pub block : ℕ → ℕ → List Row
+block i n = take n (drop i holder)
+
+-- The numbers of the parts that are taken together.
+abbrev pub personNumbers : Person → List ℕ
+personNumbers p =
+    p .bitmap
+    ∷ p .«name_bitmap»
+    ∷ from 0 17 (p .surname)
+    ++ (from 0 17 (p .forename)
+    ++ (p .«birth_bitmap»
+    ∷ p .«birth_date»
+    ∷ from 0 23 (p .«birth_place»)
+    ++ from 0 17 (p .«birth_name»)))
+
+abbrev pub identityNumbers : Identity → List ℕ
+identityNumbers i = i .id ∷ i .country ∷ i .company ∷ i .«profile_count» ∷ []
+
+abbrev pub profileNumbers : Profile → List ℕ
+profileNumbers p = p .bitmap ∷ p .network ∷ p .number ∷ p .date ∷ []
+
+abbrev pub dataNumbers : Data → List ℕ
+dataNumbers d =
+    d .«data_bitmap»
+    ∷ d .«card_status»
+    ∷ d .telepayment
+    ∷ d .residence
+    ∷ d .«commercial_id»
+    ∷ d .«work_place»
+    ∷ d .«study_place»
+    ∷ d .«sale_device»
+    ∷ d .authenticator
+    ∷ d .start1
+    ∷ d .start2
+    ∷ d .start3
+    ∷ d .start4
+    ∷ []
+
+-- The parts one behind the other.
+abbrev pub partsNumbers : Person → Identity → Profile → Profile → Profile → Profile → Data → List ℕ
+partsNumbers p i a b c d e =
+    personNumbers p
+    ++ (identityNumbers i
+    ++ (profileNumbers a ++ (profileNumbers b ++ (profileNumbers c ++ (profileNumbers d ++ dataNumbers e)))))
+
+-- The profile in the four slots from i on.
+abbrev pub profileOf : ℕ → List ℕ → Profile
+profileOf i vals =
+    record { bitmap = getD vals i 0; network = getD vals (i + 1) 0; number = getD vals (i + 2) 0; date = getD vals (i + 3) 0 }
+
+-- A profile that is not there.
+abbrev pub absent : Profile
+absent = profileOf 0 []
+
+abbrev pub numbersOf : Holder → List ℕ
+numbersOf h =
+    h .bitmap
+    ∷ h .«name_bitmap»
+    ∷ from 0 17 (h .surname)
+    ++ (from 0 17 (h .forename)
+    ++ (h .«birth_bitmap»
+    ∷ h .«birth_date»
+    ∷ from 0 23 (h .«birth_place»)
+    ++ (from 0 17 (h .«birth_name»)
+    ++ (h .id
+    ∷ h .country
+    ∷ h .company
+    ∷ h .«profile_count»
+    ∷ profileNumbers (getD (h .profiles) 0 absent)
+    ++ (profileNumbers (getD (h .profiles) 1 absent)
+    ++ (profileNumbers (getD (h .profiles) 2 absent)
+    ++ (profileNumbers (getD (h .profiles) 3 absent)
+    ++ (h .«data_bitmap»
+    ∷ h .«card_status»
+    ∷ h .telepayment
+    ∷ h .residence
+    ∷ h .«commercial_id»
+    ∷ h .«work_place»
+    ∷ h .«study_place»
+    ∷ h .«sale_device»
+    ∷ h .authenticator
+    ∷ h .start1
+    ∷ h .start2
+    ∷ h .start3
+    ∷ h .start4
+    ∷ []))))))))
+
+abbrev pub holderOf : List ℕ → Holder
+holderOf vals =
+    record {
+      bitmap = getD vals 0 0;
+      «name_bitmap» = getD vals 1 0;
+      surname = from 2 17 vals;
+      forename = from 19 17 vals;
+      «birth_bitmap» = getD vals 36 0;
+      «birth_date» = getD vals 37 0;
+      «birth_place» = from 38 23 vals;
+      «birth_name» = from 61 17 vals;
+      id = getD vals 78 0;
+      country = getD vals 79 0;
+      company = getD vals 80 0;
+      «profile_count» = getD vals 81 0;
+      profiles = profileOf 82 vals ∷ profileOf 86 vals ∷ profileOf 90 vals ∷ profileOf 94 vals ∷ [];
+      «data_bitmap» = getD vals 98 0;
+      «card_status» = getD vals 99 0;
+      telepayment = getD vals 100 0;
+      residence = getD vals 101 0;
+      «commercial_id» = getD vals 102 0;
+      «work_place» = getD vals 103 0;
+      «study_place» = getD vals 104 0;
+      «sale_device» = getD vals 105 0;
+      authenticator = getD vals 106 0;
+      start1 = getD vals 107 0;
+      start2 = getD vals 108 0;
+      start3 = getD vals 109 0;
+      start4 = getD vals 110 0;
+    }
+
+-- The texts have their length, as every Holder's in code.
+pub record Spelled (h : Holder) : Type 0 where
+  pub surname : length (h .surname) ≡ 17
+  pub forename : length (h .forename) ≡ 17
+  pub «birth_place» : length (h .«birth_place») ≡ 23
+  pub «birth_name» : length (h .«birth_name») ≡ 17
+
+abbrev pub readOf : Holder → HolderRead
+readOf h = record { refusal = refusal 0 0; holder = h }
+
+-- Refused, the Holder is of zeros.
+abbrev pub unread : Refusal → HolderRead
+unread r = record { refusal = r; holder = holderOf [] }
+
+abbrev pub holderRead : List ℕ → HolderRead
+holderRead bytes = readArea (λ vals. readOf (holderOf vals)) unread holder bytes
+
+abbrev pub holderWritten : List ℕ → Holder → Written
+holderWritten before h = writeArea holder (numbersOf h) before
+
+-- What the takes of profile k give, after a profile count: its four steps.
+pub record ProfileTook (words : List ℕ) (end : ℕ) (c : Cursor) (count k : ℕ) (p : Profile) (d : Cursor) : Type 0 where
+  pub at1 : Cursor
+  pub at2 : Cursor
+  pub at3 : Cursor
+  pub bitmap : Took words end c (Above count k) (3 ∷ []) Any (p .bitmap ∷ []) at1
+  pub network : Took words end at1 (Bit (p .bitmap) 0) (24 ∷ []) Any (p .network ∷ []) at2
+  pub number : Took words end at2 (Bit (p .bitmap) 1) (8 ∷ []) Any (p .number ∷ []) at3
+  pub date : Took words end at3 (Bit (p .bitmap) 2) (14 ∷ []) Any (p .date ∷ []) d
+
+-- What its puts give.
+pub record ProfileGave (xs ys : List ℕ) (room : ℕ) (c : Cursor) (count k : ℕ) (p : Profile) (d : Cursor) : Type 0 where
+  pub at1 : Cursor
+  pub at2 : Cursor
+  pub at3 : Cursor
+  pub xs1 : List ℕ
+  pub xs2 : List ℕ
+  pub xs3 : List ℕ
+  pub bitmap : Gave xs xs1 room c (Above count k) (3 ∷ []) Any (p .bitmap ∷ []) at1
+  pub network : Gave xs1 xs2 room at1 (Bit (p .bitmap) 0) (24 ∷ []) Any (p .network ∷ []) at2
+  pub number : Gave xs2 xs3 room at2 (Bit (p .bitmap) 1) (8 ∷ []) Any (p .number ∷ []) at3
+  pub date : Gave xs3 ys room at3 (Bit (p .bitmap) 2) (14 ∷ []) Any (p .date ∷ []) d

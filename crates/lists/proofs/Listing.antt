@@ -1,0 +1,172 @@
+-- Laws that both lists share: the line of an entry's takes or puts, and from the line of a whole list to the answer.
+use Prim.Native.Nat.{ℕ, suc, _-_}
+use mathlib.Core.List.{List, [], _∷_, _++_, map, append-assoc}
+use mathlib.Core.Bool.{Bool, true, false}
+use mathlib.Core.Path.{_≡_, refl, sym, ap, _∙_}
+use lib.Dec.{eqb}
+use lib.ListN.{length, getD, take, drop, length-append, length-map}
+use lib.Seq.{getD-at, drop-drop, drop-append-seam, take-append-seam}
+use borrow.Author.Tests.{eq-eqb, ne-eqb, eqb-true}
+use Rattle.bits.specs.Bits.{cut, spread, zeros}
+use Rattle.bits.proofs.Cutting.{length-spread, length-cut, cut-pad}
+use Rattle.rows.specs.Row.{Row, pick, above, bit}
+use Rattle.rows.specs.Walk.{Outcome, done, refused, andThen, read, write, frame, laidOn, slots}
+use Rattle.rows.specs.Step.{said, Took, Gave, Ended, Packed}
+use Rattle.rows.specs.Line.{start, Takes, _▸_, Taken, Puts, _◂_, tells}
+use Rattle.rows.specs.declared.Cursor.{Cursor}
+use Rattle.rows.specs.declared.Rule.{Rule}
+use Rattle.rows.specs.declared.When.the-variants.{Bit, Above}
+use Rattle.rows.proofs.Running.{takes-read, puts-write}
+use Rattle.records.specs.Answer.{refusal, accepted, denied, written, answered}
+use Rattle.lists.specs.Listing.{obeying, obeyed, readList, writeList}
+use Rattle.records.specs.declared.Refusal.{Refusal}
+
+-- The length of an array of structs, which the checker knows of a list mapped from it.
+pub length-of-map : (A B : Type 0) (f : A → B) (l : List A) (n : ℕ) → length (map f l) ≡ n → length l ≡ n
+length-of-map A B f l n h = sym (length-map l f) ∙ h
+
+-- An entry's fields, the numbers seen before it being so many, with the count in front.
+module _ {words : List ℕ} {end : ℕ} (seen : List ℕ) (n count : ℕ) (long : length seen ≡ n) (counted : getD seen 0 0 ≡ count) where
+  -- its bitmap
+  pub take-bitmap : {ws : List ℕ} {k : ℕ} {rule : Rule} {rs : List Row} {c : Cursor} {b : ℕ} {e : Cursor} {all : List ℕ} {d : Cursor}
+      → Took words end c (Above count k) ws rule (b ∷ []) e
+      → Takes words end rs (seen ++ (b ∷ [])) e all d
+      → Takes words end (record { boxes = ws; cond = above 0 k; rule = rule } ∷ rs) seen c all d
+  take-bitmap took rest = (rw (← counted) at took) ▸ rest
+
+  -- an element, some numbers after the bitmap
+  pub take-element : {ws : List ℕ} {j : ℕ} {rule : Rule} {rs : List Row} {c : Cursor} {b : ℕ} {vs : List ℕ} {e : Cursor} {all : List ℕ} {d : Cursor} (some : List ℕ)
+      → Took words end c (Bit b j) ws rule vs e
+      → Takes words end rs (seen ++ (b ∷ (some ++ vs))) e all d
+      → Takes words end (record { boxes = ws; cond = bit n j; rule = rule } ∷ rs) (seen ++ (b ∷ some)) c all d
+  take-element {b} {vs} some took rest =
+      (rw (← getD-at seen b some 0 n long) at took) ▸ (rw (← append-assoc seen (b ∷ some) vs) at rest)
+
+-- The same of puts, the numbers from slot n on being the entry's.
+module _ {room : ℕ} (vals seen : List ℕ) (n count : ℕ) (long : length seen ≡ n) (counted : getD seen 0 0 ≡ count) where
+  pub put-bitmap : {w k : ℕ} {rule : Rule} {rs : List Row} {xs zs : List ℕ} {c : Cursor} {b : ℕ} {more : List ℕ} {e : Cursor} {all ys : List ℕ} {d : Cursor}
+      → drop n vals ≡ b ∷ more
+      → Gave xs zs room c (Above count k) (w ∷ []) rule (b ∷ []) e
+      → Puts room vals rs (seen ++ (b ∷ [])) zs e all ys d
+      → Puts room vals (record { boxes = w ∷ []; cond = above 0 k; rule = rule } ∷ rs) seen xs c all ys d
+  put-bitmap {b} split gave rest =
+      let own : take 1 (drop (length seen) vals) ≡ b ∷ [] = rw (long, split) in
+      (rw (← counted, ← own) at gave) ◂ (rw (← own) at rest)
+
+  pub put-element : {ws : List ℕ} {j : ℕ} {rule : Rule} {rs : List Row} {xs zs : List ℕ} {c : Cursor} {b : ℕ} {vs : List ℕ} {e : Cursor} {all ys : List ℕ} {d : Cursor} (some more : List ℕ)
+      → drop n vals ≡ b ∷ (some ++ (vs ++ more))
+      → length ws ≡ length vs
+      → Gave xs zs room c (Bit b j) ws rule vs e
+      → Puts room vals rs (seen ++ (b ∷ (some ++ vs))) zs e all ys d
+      → Puts room vals (record { boxes = ws; cond = bit n j; rule = rule } ∷ rs) (seen ++ (b ∷ some)) xs c all ys d
+  put-element {ws} {b} {vs} some more split fit gave rest =
+      let own : take (length ws) (drop (length (seen ++ (b ∷ some))) vals) ≡ vs =
+      rw (length-append seen (b ∷ some), long, ← drop-drop (suc (length some)) n vals, split, drop-append-seam some (vs ++ more), fit) (take-append-seam vs more) in
+      (rw (← getD-at seen b some 0 n long, ← own) at gave) ◂ (rw (← append-assoc seen (b ∷ some) vs, ← own) at rest)
+
+-- The rule after all else, of an outcome and of a cursor.
+obeys-tells : {A : Type 0} (fault : A → ℕ) (c : Cursor) (a : A)
+    → andThen (tells c a) (λ x end. obeying (fault x) x end) ≡ tells (obeyed c (fault a)) a
+obeys-tells fault c a = go (eqb (c .why) 0) refl (eqb (fault a) 0) refl
+  where
+    go : (b : Bool) → eqb (c .why) 0 ≡ b → (t : Bool) → eqb (fault a) 0 ≡ t
+        → andThen (pick b (done a (c .at)) (refused (c .why) (c .at) 0)) (λ x end. obeying (fault x) x end)
+        ≡ tells (pick b (pick t c (record { at = fault a; why = 6; number = 0 })) c) a
+    go true e true h = rw (e, h)
+    go true e false h = rw h
+    go false e t h = rw e
+
+-- It only refuses.
+obeyed-clear : (c : Cursor) (k : ℕ) → obeyed c k .why ≡ 0 → c .why ≡ 0
+obeyed-clear c k = go (eqb (c .why) 0) refl
+  where
+    go : (b : Bool) → eqb (c .why) 0 ≡ b → pick b (pick (eqb k 0) c (record { at = k; why = 6; number = 0 })) c .why ≡ 0 → c .why ≡ 0
+    go true e ok = eqb-true (c .why) 0 e
+    go false e ok = ok
+
+module _ {A : Type 0} (good : List ℕ → A) (bad : Refusal → A) (fault : List ℕ → ℕ) (outside : Bool) (rows : List Row) (bytes : List ℕ) where
+  pub list-short : (length bytes ≡ 29 → ⊥) → bad (refusal 1 0) ≡ readList good bad fault outside rows bytes
+  unfolding readList
+  list-short short = rw (ne-eqb _ _ short)
+
+  pub list-outside : length bytes ≡ 29 → outside ≡ true → bad (refusal 11 0) ≡ readList good bad fault outside rows bytes
+  unfolding readList
+  list-outside whole out = rw (eq-eqb _ _ whole, out)
+
+  -- An answer does not tell the row at fault.
+  answered-said : (o : Outcome (List ℕ))
+      → answered good bad (andThen o (λ vals end. obeying (fault vals) vals end))
+      ≡ answered good bad (andThen (said o) (λ vals end. obeying (fault vals) vals end))
+  answered-said (done vals end) = refl
+  answered-said (refused n at i) = refl
+
+  module _ (words all : List ℕ) (d e f : Cursor)
+      (whole : length bytes ≡ 29)
+      (inside : outside ≡ false)
+      (cuts : words ≡ cut 32 63 (length words) (spread 8 bytes))
+      (taken : Taken words 232 rows [] start all d)
+      (ended : Ended words 232 d e)
+      (ruled : f ≡ obeyed e (fault all)) where
+    says : readList good bad fault outside rows bytes ≡ answered good bad (tells f all)
+    unfolding readList
+    says =
+        let long : length (spread 8 bytes) ≡ 232 = rw (length-spread 8 bytes, whole) in
+        rw (eq-eqb _ _ whole, inside, ruled)
+        (answered-said (read rows (spread 8 bytes))
+        ∙ ap (λ (o : Outcome (List ℕ)). answered good bad (andThen o (λ vals end. obeying (fault vals) vals end)))
+        (takes-read words 232 (spread 8 bytes) long cuts rows all d e (taken .takes) ended)
+        ∙ ap (answered good bad) (obeys-tells fault e all))
+
+    pub list-read : f .why ≡ 0 → good all ≡ readList good bad fault outside rows bytes
+    list-read ok = sym (says ∙ rw (eq-eqb _ _ ok))
+
+    pub list-refused : (f .why ≡ 0 → ⊥) → bad (refusal (f .why) (f .at)) ≡ readList good bad fault outside rows bytes
+    list-refused why = sym (says ∙ rw (ne-eqb _ _ why))
+
+module _ (fault : List ℕ → ℕ) (outside : Bool) (rows : List Row) (vals before : List ℕ) where
+  pub list-unwritten : (length before ≡ 29 → ⊥) → denied 1 0 before ≡ writeList fault outside rows vals before
+  unfolding writeList
+  list-unwritten short = rw (ne-eqb _ _ short)
+
+  pub list-unwritten-outside : length before ≡ 29 → outside ≡ true → denied 11 0 before ≡ writeList fault outside rows vals before
+  unfolding writeList
+  list-unwritten-outside whole out = rw (eq-eqb _ _ whole, out)
+
+  -- What is written does not depend on the row at fault.
+  written-said : (o : Outcome (List Bool))
+      → written before (andThen o (λ bs end. obeying (fault vals) bs end))
+      ≡ written before (andThen (said o) (λ bs end. obeying (fault vals) bs end))
+  written-said (done bs end) = refl
+  written-said (refused n at i) = refl
+
+  module _ (xs all ys after : List ℕ) (d f : Cursor)
+      (whole : length before ≡ 29)
+      (inside : outside ≡ false)
+      (sized : length vals ≡ slots rows)
+      (empty : xs ≡ cut 32 32 (length xs) [])
+      (puts : Puts 232 vals rows [] xs start all ys d)
+      (ruled : f ≡ obeyed d (fault vals))
+      (packed : Packed ys f before after) where
+    bits : List Bool
+    bits = laidOn [] (frame rows vals) vals
+
+    says-written : writeList fault outside rows vals before ≡ written before (tells f (bits ++ zeros (232 - d .at)))
+    unfolding bits writeList
+    says-written =
+        rw (eq-eqb _ _ whole, inside, ruled)
+        (written-said (write rows 232 vals)
+        ∙ ap (λ (o : Outcome (List Bool)). written before (andThen o (λ bs end. obeying (fault vals) bs end)))
+        (puts-write 232 rows vals xs all ys d sized empty puts .0)
+        ∙ ap (written before) (obeys-tells (λ bs. fault vals) d (bits ++ zeros (232 - d .at))))
+
+    pub list-written : f .why ≡ 0 → accepted after ≡ writeList fault outside rows vals before
+    unfolding bits
+    list-written ok =
+        let clear : d .why ≡ 0 = obeyed-clear d (fault vals) (rw ruled at ok) in
+        let drawn : ys ≡ cut 32 32 (length xs) bits = puts-write 232 rows vals xs all ys d sized empty puts .1 clear in
+        let long : length ys ≡ length xs = ap length drawn ∙ length-cut 32 32 (length xs) bits in
+        let bytes : after ≡ cut 8 8 (length before) bits = packed .written ok bits (rw long drawn) in
+        sym (says-written ∙ rw (eq-eqb _ _ ok, cut-pad, ← bytes))
+
+    pub list-denied : (f .why ≡ 0 → ⊥) → denied (f .why) (f .at) after ≡ writeList fault outside rows vals before
+    list-denied why = sym (says-written ∙ rw (ne-eqb _ _ why, packed .kept why))

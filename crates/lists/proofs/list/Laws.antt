@@ -1,0 +1,37 @@
+-- The contract list: what was read, written again, is the same bytes; what was written, read again, is the same value.
+use Prim.Native.Nat.{ℕ, _^_, _<_}
+use mathlib.Core.List.{List, []}
+use mathlib.Core.Path.{_≡_, refl, ap}
+use lib.ListN.{length, getD}
+use Rattle.rows.specs.table.BestContracts.{contractList}
+use Rattle.records.specs.Answer.{accepted}
+use Rattle.lists.specs.List.{entryOf, numbersOf, listOf, gotList, noList, listFault, outside, listRead, listWritten}
+use Rattle.lists.specs.declared.list.Entry.{Entry}
+use Rattle.lists.specs.declared.list.ContractList.{ContractList}
+use Rattle.lists.specs.declared.list.ListRead.{ListRead}
+use Rattle.records.proofs.Inverse.{from-all, named-all}
+use Rattle.lists.proofs.Relisting.{listing-read-write, listing-write-read}
+
+-- A list of eight entries is what its numbers make.
+pub list-of-numbers : (l : ContractList) → length (l .entries) ≡ 8 → listOf (numbersOf l) ≡ l
+list-of-numbers l eight =
+    ap (λ (es : List Entry). record { count = l .count; entries = es }) (named-all (entryOf [] 0) 8 (l .entries) eight)
+
+same : (a b : ContractList) → gotList a ≡ gotList b → a ≡ b
+same a b h = ap (λ (r : ListRead). r .list) h
+
+pub list-read-write : (n : ℕ) (bytes : List ℕ) (l : ContractList) → ((i : ℕ) → getD bytes i 0 < 2 ^ 8)
+    → listRead n bytes ≡ gotList l
+    → listWritten n l bytes ≡ accepted bytes
+unfolding contractList
+list-read-write n bytes l small h =
+    listing-read-write gotList noList same (λ r l e. ap (λ (x : ListRead). x .refusal .number) e) (listFault n) (outside n) (contractList n) numbersOf listOf
+    (from-all 49) bytes l small h
+
+pub list-write-read : (n : ℕ) (before after : List ℕ) (l : ContractList) → length (l .entries) ≡ 8
+    → listWritten n l before ≡ accepted after
+    → listRead n after ≡ gotList l
+unfolding contractList
+list-write-read n before after l eight h =
+    listing-write-read gotList noList same (λ r l e. ap (λ (x : ListRead). x .refusal .number) e) (listFault n) (outside n) (contractList n) numbersOf listOf
+    before after l refl (list-of-numbers l eight) h

@@ -1,0 +1,36 @@
+use mathlib.Core.List.{[], _∷_}
+use Rattle.rows.specs.Line.{taken}
+use Rattle.lists.proofs.Listing.{take-bitmap, take-element}
+use borrow.Author.Needs.{needs}
+use Rattle.lists.proofs.list.take_entry.Statement.{statement}
+use Rattle.lists.proofs.list.take_entry.Tie as tie
+
+number-requires : tie.Need-number-requires
+number-requires c κs = search needs
+
+number-requires-2 : tie.Need-number-requires-2
+number-requires-2 c κs = search needs
+
+tariff-requires : tie.Need-tariff-requires
+tariff-requires c κs = search needs
+
+number-requires-3 : tie.Need-number-requires-3
+number-requires-3 c κs = search needs
+
+returns : tie.Need-returns
+returns c = record {
+  ready = c .number3 .ensures .ready;
+  takes = λ seen long counted.
+      let b = c .before .before .before .before .number .result .number in
+      let network = c .before .before .before .number2 .result .number in
+      let tariff = c .before .before .tariff .result in
+      take-bitmap seen _ _ long counted (c .before .before .before .before .number .ensures)
+      (take-element seen _ _ long counted [] (c .before .before .before .number2 .ensures)
+      (take-element seen _ _ long counted (network ∷ []) (c .before .before .tariff .ensures)
+      (take-element seen _ _ long counted (network ∷ tariff .key ∷ tariff .kind ∷ tariff .priority ∷ []) (c .number3 .ensures) taken)));
+}
+
+pub take-entry-spec : {M : Type 1} → statement M
+take-entry-spec =
+    tie.close
+    (tie.spec number-requires number-requires-2 tariff-requires number-requires-3 returns)

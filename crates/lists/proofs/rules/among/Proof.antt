@@ -1,0 +1,63 @@
+use Prim.Native.Nat.{_-_, _≤_}
+use mathlib.Core.Path.{_≡_, refl, sym, _∙_}
+use lib.ListN.{take, drop}
+use native.Mathlib.Omega.{arith}
+use borrow.Author.Needs.{needs}
+use borrow.Author.Tests.{eq-eqb, ne-eqb}
+use Rattle.lists.specs.Rules.{among}
+use Rattle.lists.proofs.Ruling.{among-more, none-at}
+use Rattle.lists.proofs.rules.among.Statement.{statement}
+use Rattle.lists.proofs.rules.among.Tie as tie
+
+abbrev Inv-loop : tie.InvT-loop
+Inv-loop pointers n p i₀ i = (i ≤ n) × (among p (take n pointers) ≡ among p (drop i (take n pointers)))
+
+abbrev μ-loop : tie.MeasureT-loop
+μ-loop pointers n p i₀ i = n - i
+
+loop-holds : tie.Need-loop-holds Inv-loop μ-loop
+loop-holds c = (search needs, refl)
+
+mul-if1 : tie.Need-mul-if1 Inv-loop μ-loop
+mul-if1 c = search needs
+
+shared-slice-read-if1 : tie.Need-shared-slice-read-if1 Inv-loop μ-loop
+shared-slice-read-if1 c = search needs
+
+returns : tie.Need-returns Inv-loop μ-loop
+returns c = let l = c .before .before .before .loop in
+    let a = c .before .before .before .before .args in
+    sym (l .inv .1 ∙ among-more (a .p) (a .n) (a .pointers .now) (l .i) (c .before .before .loop-test .taken) (c .before .before .before .before .pre) ∙ rw (eq-eqb _ _ (c .if1 .taken)))
+
+add-i : tie.Need-add-i Inv-loop μ-loop
+add-i c = search needs
+
+loop-less : tie.Need-loop-less Inv-loop μ-loop
+loop-less c = search needs
+
+loop-again : tie.Need-loop-again Inv-loop μ-loop
+loop-again c = let l = c .before .before .before .loop in
+    let a = c .before .before .before .before .args in
+    (search needs, l .inv .1 ∙ among-more (a .p) (a .n) (a .pointers .now) (l .i) (c .before .before .loop-test .taken) (c .before .before .before .before .pre) ∙ rw (ne-eqb _ _ (c .if1 .left)))
+
+returns-2 : tie.Need-returns-2 Inv-loop μ-loop
+returns-2 c =
+    let l = c .before .loop in
+    let a = c .before .before .args in
+    let here : l .i ≡ a .n = omega arith in
+    sym (l .inv .1 ∙ rw (here, none-at (a .n) (a .pointers .now)))
+
+pub among-spec : {M : Type 1} → statement M
+among-spec =
+    tie.close
+    (tie.spec
+    Inv-loop
+    μ-loop
+    loop-holds
+    mul-if1
+    shared-slice-read-if1
+    returns
+    add-i
+    loop-less
+    loop-again
+    returns-2)

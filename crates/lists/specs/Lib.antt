@@ -1,0 +1,4 @@
+pub mod Rules
+pub mod Listing
+pub mod List
+pub mod Special

@@ -1,0 +1,4 @@
+// The two lists of a card: contracts and special events.
+pub mod list;
+mod rules;
+pub mod special;

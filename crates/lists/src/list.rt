@@ -1,0 +1,359 @@
+// Contract list (BestContracts).
+ghost use mathlib.Core.Path.{_≡_};
+ghost use mathlib.Core.List.{[]};
+ghost use Prim.Native.Nat.{_+_, _*_};
+ghost use lib.ListN.{length};
+ghost use Rattle.rows.specs.Step.{Ready, Drafted};
+ghost use Rattle.rows.specs.Line.{start, Taken, Puts};
+ghost use Rattle.rows.specs.table.BestContracts.{entry, contractList};
+ghost use Rattle.lists.specs.Listing.{EntryTook, EntryGave};
+ghost use Rattle.lists.specs.List.{entryNumbers, numbersOf, outside, listFault, listRead, listWritten, noList};
+ghost use Rattle.records.specs.Answer.{refusal, Written};
+use crate::rules;
+use crate::rules::COUNT_BITS;
+use records::BITS;
+use records::BYTES;
+use records::Refusal;
+use rows::Cursor;
+use rows::When;
+use rows::put;
+use rows::take;
+use rows::take::ListTariff;
+
+// An entry: its elements are [0] network, [1] tariff (key, kind and priority), [2] pointer.
+pub struct Entry {
+    pub bitmap: u32,
+    pub network: u32,
+    pub key: u32,
+    pub kind: u32,
+    pub priority: u32,
+    pub pointer: u32,
+}
+
+pub struct ContractList {
+    pub count: u32,
+    pub entries: [Entry; 8],
+}
+
+pub struct ListRead {
+    pub refusal: Refusal,
+    pub list: ContractList,
+}
+
+impl Entry {
+    // Priority codes.
+    pub const LAST_USABLE: u32 = 11;
+
+    pub const UNDEFINED: u32 = ListTariff::UNDEFINED;
+
+    pub const ERASABLE: u32 = 15;
+
+    // Widths.
+    pub const BITMAP_BITS: u32 = 3;
+
+    pub const NETWORK_BITS: u32 = 24;
+
+    pub const KEY_BITS: u32 = 4;
+
+    pub const KIND_BITS: u32 = 8;
+
+    pub const PRIORITY_BITS: u32 = 4;
+
+    pub const POINTER_BITS: u32 = 5;
+
+    // A bitmap without its last bit, the network's, where every other element is present.
+    pub const FULL: u32 = 3;
+
+    pub const NONE: Entry = Entry {
+        bitmap: 0,
+        network: 0,
+        key: 0,
+        kind: 0,
+        priority: 0,
+        pointer: 0,
+    };
+
+    // An entry without a network.
+    pub fn new(key: u32, kind: u32, priority: u32, pointer: u32) -> Entry
+        ensures { λ r. ⌜ r ≡ record { bitmap = 6; network = 0; key = key; kind = kind; priority = priority; pointer = pointer } ⌝ }
+    {
+        Entry {
+            bitmap: 6,
+            network: 0,
+            key,
+            kind,
+            priority,
+            pointer,
+        }
+    }
+
+    pub fn with_network(network: u32, key: u32, kind: u32, priority: u32, pointer: u32) -> Entry
+        ensures { λ r. ⌜ r ≡ record { bitmap = 7; network = network; key = key; kind = kind; priority = priority; pointer = pointer } ⌝ }
+    {
+        Entry {
+            bitmap: 7,
+            network,
+            key,
+            kind,
+            priority,
+            pointer,
+        }
+    }
+}
+
+impl ContractList {
+    // The most entries that a list has, and contract records that a card has.
+    pub const MOST: u32 = 8;
+
+    pub const NONE: ContractList = ContractList {
+        count: 0,
+        entries: [Entry::NONE; 8],
+    };
+}
+
+// An entry's numbers, and the cursor behind it.
+struct EntryTaken {
+    entry: Entry,
+    last: Cursor,
+}
+
+// The list's numbers, and the cursor behind the last entry.
+struct ListTaken {
+    list: ContractList,
+    last: Cursor,
+}
+
+// Whether n is no number of contract records that a card may have.
+fn outside(n: u32) -> bool
+    ensures { λ r. ⌜ r ≡ outside n ⌝ }
+{
+    (n < 1) | (ContractList::MOST < n)
+}
+
+// The contract list in a lent record, on a card with n contract records.
+pub fn read(bytes: &[u8], n: u32) -> ListRead
+    ensures { λ r. ⌜ r ≡ listRead n (now (bytes .entry)) ⌝ }
+{
+    if bytes.len() != BYTES {
+        return refused(1, 0);
+    }
+    if outside(n) {
+        return refused(11, 0);
+    }
+    let mut words = [0u64; 8];
+    bits::words(bytes, &mut words);
+    let taken = take_list(&words, n);
+    let list = taken.list;
+    let end = take::end(&words, BITS, taken.last);
+    let last = rules::obeyed(end, at_fault(list, n));
+    if last.why != 0 {
+        return refused(last.why, last.at);
+    }
+    ListRead {
+        refusal: Refusal {
+            number: 0,
+            place: 0,
+        },
+        list,
+    }
+}
+
+fn refused(number: u32, place: u32) -> ListRead
+    ensures { λ r. ⌜ r ≡ noList (refusal number place) ⌝ }
+{
+    ListRead {
+        refusal: Refusal { number, place },
+        list: ContractList::NONE,
+    }
+}
+
+fn take_entry(words: &[u64], c: Cursor, count: u32, k: u32) -> EntryTaken
+    requires { ⌜ Ready (now words) 232 c ⌝ }
+    ensures { λ r. ⌜ EntryTook (now (words .entry)) (entry k) (1 + 6 * k) count c (entryNumbers (r .entry)) (r .last) ⌝ }
+{
+    let bitmap = take::number(words, BITS, c, When::Above(count, k), Entry::BITMAP_BITS);
+    let marks = bitmap.number;
+    let network = take::number(
+        words,
+        BITS,
+        bitmap,
+        When::Bit(marks, 0),
+        Entry::NETWORK_BITS,
+    );
+    let tariff = take::tariff(words, BITS, network, When::Bit(marks, 1));
+    let cursor = tariff.cursor;
+    let pointer = take::number(
+        words,
+        BITS,
+        cursor,
+        When::Bit(marks, 2),
+        Entry::POINTER_BITS,
+    );
+    EntryTaken {
+        entry: Entry {
+            bitmap: marks,
+            network: network.number,
+            key: tariff.key,
+            kind: tariff.kind,
+            priority: tariff.priority,
+            pointer: pointer.number,
+        },
+        last: pointer,
+    }
+}
+
+fn take_list(words: &[u64], n: u32) -> ListTaken
+    requires { ⌜ length (now words) ≡ 8 ⌝ }
+    ensures { λ r. ⌜ Taken (now (words .entry)) 232 (contractList n) [] start (numbersOf (r .list)) (r .last) ⌝ }
+{
+    let head = take::at_most(words, BITS, Cursor::START, When::Always, COUNT_BITS, n);
+    let count = head.number;
+    let first = take_entry(words, head, count, 0);
+    let second = take_entry(words, first.last, count, 1);
+    let third = take_entry(words, second.last, count, 2);
+    let fourth = take_entry(words, third.last, count, 3);
+    let fifth = take_entry(words, fourth.last, count, 4);
+    let sixth = take_entry(words, fifth.last, count, 5);
+    let seventh = take_entry(words, sixth.last, count, 6);
+    let eighth = take_entry(words, seventh.last, count, 7);
+    let e0 = first.entry;
+    let e1 = second.entry;
+    let e2 = third.entry;
+    let e3 = fourth.entry;
+    let e4 = fifth.entry;
+    let e5 = sixth.entry;
+    let e6 = seventh.entry;
+    let e7 = eighth.entry;
+    let last = eighth.last;
+    ListTaken {
+        list: ContractList {
+            count,
+            entries: [e0, e1, e2, e3, e4, e5, e6, e7],
+        },
+        last,
+    }
+}
+
+// The number of the first entry that breaks the list rule, or 0.
+fn at_fault(list: ContractList, n: u32) -> u32
+    ensures { λ r. ⌜ r ≡ listFault n (numbersOf list) ⌝ }
+{
+    let es = list.entries;
+    let bitmaps = [
+        es[0].bitmap,
+        es[1].bitmap,
+        es[2].bitmap,
+        es[3].bitmap,
+        es[4].bitmap,
+        es[5].bitmap,
+        es[6].bitmap,
+        es[7].bitmap,
+    ];
+    let pointers = [
+        es[0].pointer,
+        es[1].pointer,
+        es[2].pointer,
+        es[3].pointer,
+        es[4].pointer,
+        es[5].pointer,
+        es[6].pointer,
+        es[7].pointer,
+    ];
+    rules::first_at_fault(&bitmaps, &pointers, list.count, Entry::FULL, n)
+}
+
+// Writes a contract list to a lent record, all of it; refused, the record is as it was.
+pub fn write(bytes: &mut [u8], n: u32, list: ContractList) -> Refusal
+    ensures { λ r. ⌜ record { answer = r; bytes = now (bytes .exit) } ≡ listWritten n list (now (bytes .entry)) ⌝ }
+{
+    if bytes.len() != BYTES {
+        return Refusal {
+            number: 1,
+            place: 0,
+        };
+    }
+    if outside(n) {
+        return Refusal {
+            number: 11,
+            place: 0,
+        };
+    }
+    let mut draft = [0u64; 9];
+    let end = put_list(&mut draft, n, list);
+    let last = rules::obeyed(end, at_fault(list, n));
+    put::end(&draft, last, bytes);
+    if last.why == 0 {
+        return Refusal {
+            number: 0,
+            place: 0,
+        };
+    }
+    Refusal {
+        number: last.why,
+        place: last.at,
+    }
+}
+
+fn put_entry(draft: &mut [u64], c: Cursor, count: u32, k: u32, e: Entry) -> Cursor
+    requires { ⌜ Drafted (now draft) 232 c ⌝ }
+    ensures { λ d. ⌜ EntryGave (now (draft .entry)) (now (draft .exit)) (entry k) (1 + 6 * k) count c (entryNumbers e) d ⌝ }
+{
+    let bitmap = put::number(
+        draft,
+        BITS,
+        c,
+        When::Above(count, k),
+        Entry::BITMAP_BITS,
+        e.bitmap,
+    );
+    let network = put::number(
+        draft,
+        BITS,
+        bitmap,
+        When::Bit(e.bitmap, 0),
+        Entry::NETWORK_BITS,
+        e.network,
+    );
+    let tariff = put::tariff(
+        draft,
+        BITS,
+        network,
+        When::Bit(e.bitmap, 1),
+        e.key,
+        e.kind,
+        e.priority,
+    );
+    put::number(
+        draft,
+        BITS,
+        tariff,
+        When::Bit(e.bitmap, 2),
+        Entry::POINTER_BITS,
+        e.pointer,
+    )
+}
+
+fn put_list(draft: &mut [u64], n: u32, list: ContractList) -> Cursor
+    requires { ⌜ length (now draft) ≡ 9 ⌝ }
+    ensures { λ d. ⌜ Puts 232 (numbersOf list) (contractList n) [] (now (draft .entry)) start (numbersOf list) (now (draft .exit)) d ⌝ }
+{
+    let count = list.count;
+    let es = list.entries;
+    let head = put::at_most(
+        draft,
+        BITS,
+        Cursor::START,
+        When::Always,
+        COUNT_BITS,
+        n,
+        count,
+    );
+    let first = put_entry(draft, head, count, 0, es[0]);
+    let second = put_entry(draft, first, count, 1, es[1]);
+    let third = put_entry(draft, second, count, 2, es[2]);
+    let fourth = put_entry(draft, third, count, 3, es[3]);
+    let fifth = put_entry(draft, fourth, count, 4, es[4]);
+    let sixth = put_entry(draft, fifth, count, 5, es[5]);
+    let seventh = put_entry(draft, sixth, count, 6, es[6]);
+    put_entry(draft, seventh, count, 7, es[7])
+}

@@ -1,0 +1,234 @@
+// Special event list.
+ghost use mathlib.Core.Path.{_≡_};
+ghost use mathlib.Core.List.{[]};
+ghost use Prim.Native.Nat.{_+_, _*_};
+ghost use lib.ListN.{length};
+ghost use Rattle.rows.specs.Step.{Ready, Drafted};
+ghost use Rattle.rows.specs.Line.{start, Taken, Puts};
+ghost use Rattle.rows.specs.table.Special.{entry, specialList};
+ghost use Rattle.records.specs.Answer.{refusal, Written};
+ghost use Rattle.lists.specs.Listing.{EntryTook, EntryGave};
+ghost use Rattle.lists.specs.Special.{entryNumbers, numbersOf, specialFault, specialRead, specialWritten, noSpecial};
+use crate::rules;
+use crate::rules::COUNT_BITS;
+use records::BITS;
+use records::BYTES;
+use records::Refusal;
+use rows::Cursor;
+use rows::When;
+use rows::put;
+use rows::take;
+
+// An entry: its elements are [0] network, [1] provider, [2] seriousness, [3] pointer.
+pub struct SpecialEntry {
+    pub bitmap: u32,
+    pub network: u32,
+    pub provider: u32,
+    pub seriousness: u32,
+    pub pointer: u32,
+}
+
+pub struct SpecialList {
+    pub count: u32,
+    pub entries: [SpecialEntry; 4],
+}
+
+pub struct SpecialRead {
+    pub refusal: Refusal,
+    pub list: SpecialList,
+}
+
+impl SpecialEntry {
+    // A bitmap without its last bit, the network's, where every other element is present.
+    pub const FULL: u32 = 7;
+
+    pub const NONE: SpecialEntry = SpecialEntry {
+        bitmap: 0,
+        network: 0,
+        provider: 0,
+        seriousness: 0,
+        pointer: 0,
+    };
+}
+
+impl SpecialList {
+    // The most entries that a list has, and special event records that a card has.
+    pub const MOST: u32 = 4;
+
+    pub const NONE: SpecialList = SpecialList {
+        count: 0,
+        entries: [SpecialEntry::NONE; 4],
+    };
+}
+
+// An entry's numbers, and the cursor behind it.
+struct EntryTaken {
+    entry: SpecialEntry,
+    last: Cursor,
+}
+
+// The list's numbers, and the cursor behind the last entry.
+struct ListTaken {
+    list: SpecialList,
+    last: Cursor,
+}
+
+// The special event list in a lent record, on a card with s special event records.
+pub fn read(bytes: &[u8], s: u32) -> SpecialRead
+    ensures { λ r. ⌜ r ≡ specialRead s (now (bytes .entry)) ⌝ }
+{
+    if bytes.len() != BYTES {
+        return refused(1, 0);
+    }
+    if SpecialList::MOST < s {
+        return refused(11, 0);
+    }
+    let mut words = [0u64; 8];
+    bits::words(bytes, &mut words);
+    let taken = take_list(&words);
+    let list = taken.list;
+    let end = take::end(&words, BITS, taken.last);
+    let last = rules::obeyed(end, at_fault(list, s));
+    if last.why != 0 {
+        return refused(last.why, last.at);
+    }
+    SpecialRead {
+        refusal: Refusal {
+            number: 0,
+            place: 0,
+        },
+        list,
+    }
+}
+
+fn refused(number: u32, place: u32) -> SpecialRead
+    ensures { λ r. ⌜ r ≡ noSpecial (refusal number place) ⌝ }
+{
+    SpecialRead {
+        refusal: Refusal { number, place },
+        list: SpecialList::NONE,
+    }
+}
+
+fn take_entry(words: &[u64], c: Cursor, count: u32, k: u32) -> EntryTaken
+    requires { ⌜ Ready (now words) 232 c ⌝ }
+    ensures { λ r. ⌜ EntryTook (now (words .entry)) (entry k) (1 + 5 * k) count c (entryNumbers (r .entry)) (r .last) ⌝ }
+{
+    let bitmap = take::number(words, BITS, c, When::Above(count, k), 4);
+    let marks = bitmap.number;
+    let network = take::number(words, BITS, bitmap, When::Bit(marks, 0), 24);
+    let provider = take::number(words, BITS, network, When::Bit(marks, 1), 8);
+    let seriousness = take::number(words, BITS, provider, When::Bit(marks, 2), 2);
+    let pointer = take::number(words, BITS, seriousness, When::Bit(marks, 3), 5);
+    EntryTaken {
+        entry: SpecialEntry {
+            bitmap: marks,
+            network: network.number,
+            provider: provider.number,
+            seriousness: seriousness.number,
+            pointer: pointer.number,
+        },
+        last: pointer,
+    }
+}
+
+fn take_list(words: &[u64]) -> ListTaken
+    requires { ⌜ length (now words) ≡ 8 ⌝ }
+    ensures { λ r. ⌜ Taken (now (words .entry)) 232 specialList [] start (numbersOf (r .list)) (r .last) ⌝ }
+{
+    let most = SpecialList::MOST;
+    let head = take::at_most(words, BITS, Cursor::START, When::Always, COUNT_BITS, most);
+    let count = head.number;
+    let first = take_entry(words, head, count, 0);
+    let second = take_entry(words, first.last, count, 1);
+    let third = take_entry(words, second.last, count, 2);
+    let fourth = take_entry(words, third.last, count, 3);
+    let e0 = first.entry;
+    let e1 = second.entry;
+    let e2 = third.entry;
+    let e3 = fourth.entry;
+    let last = fourth.last;
+    ListTaken {
+        list: SpecialList {
+            count,
+            entries: [e0, e1, e2, e3],
+        },
+        last,
+    }
+}
+
+// The number of the first entry that breaks the list rule, or 0.
+fn at_fault(list: SpecialList, s: u32) -> u32
+    ensures { λ r. ⌜ r ≡ specialFault s (numbersOf list) ⌝ }
+{
+    let es = list.entries;
+    let bitmaps = [es[0].bitmap, es[1].bitmap, es[2].bitmap, es[3].bitmap];
+    let pointers = [es[0].pointer, es[1].pointer, es[2].pointer, es[3].pointer];
+    rules::first_at_fault(&bitmaps, &pointers, list.count, SpecialEntry::FULL, s)
+}
+
+// Writes a special event list to a lent record, all of it; refused, the record is as it was.
+pub fn write(bytes: &mut [u8], s: u32, list: SpecialList) -> Refusal
+    ensures { λ r. ⌜ record { answer = r; bytes = now (bytes .exit) } ≡ specialWritten s list (now (bytes .entry)) ⌝ }
+{
+    if bytes.len() != BYTES {
+        return Refusal {
+            number: 1,
+            place: 0,
+        };
+    }
+    if SpecialList::MOST < s {
+        return Refusal {
+            number: 11,
+            place: 0,
+        };
+    }
+    let mut draft = [0u64; 9];
+    let end = put_list(&mut draft, list);
+    let last = rules::obeyed(end, at_fault(list, s));
+    put::end(&draft, last, bytes);
+    if last.why == 0 {
+        return Refusal {
+            number: 0,
+            place: 0,
+        };
+    }
+    Refusal {
+        number: last.why,
+        place: last.at,
+    }
+}
+
+fn put_entry(draft: &mut [u64], c: Cursor, count: u32, k: u32, e: SpecialEntry) -> Cursor
+    requires { ⌜ Drafted (now draft) 232 c ⌝ }
+    ensures { λ d. ⌜ EntryGave (now (draft .entry)) (now (draft .exit)) (entry k) (1 + 5 * k) count c (entryNumbers e) d ⌝ }
+{
+    let marks = e.bitmap;
+    let bitmap = put::number(draft, BITS, c, When::Above(count, k), 4, marks);
+    let network = put::number(draft, BITS, bitmap, When::Bit(marks, 0), 24, e.network);
+    let provider = put::number(draft, BITS, network, When::Bit(marks, 1), 8, e.provider);
+    let seriousness = put::number(draft, BITS, provider, When::Bit(marks, 2), 2, e.seriousness);
+    put::number(draft, BITS, seriousness, When::Bit(marks, 3), 5, e.pointer)
+}
+
+fn put_list(draft: &mut [u64], list: SpecialList) -> Cursor
+    requires { ⌜ length (now draft) ≡ 9 ⌝ }
+    ensures { λ d. ⌜ Puts 232 (numbersOf list) specialList [] (now (draft .entry)) start (numbersOf list) (now (draft .exit)) d ⌝ }
+{
+    let most = SpecialList::MOST;
+    let count = list.count;
+    let es = list.entries;
+    let head = put::at_most(
+        draft,
+        BITS,
+        Cursor::START,
+        When::Always,
+        COUNT_BITS,
+        most,
+        count,
+    );
+    let first = put_entry(draft, head, count, 0, es[0]);
+    let second = put_entry(draft, first, count, 1, es[1]);
+    let third = put_entry(draft, second, count, 2, es[2]);
+    put_entry(draft, third, count, 3, es[3])
+}
