@@ -23,10 +23,6 @@ number-append a b = go 0 a
     go n [] = number-on n b
     go n (x ∷ a) = go (n * 2 + bit x) a
 
-pub bit-lt : (b : Bool) → bit b < 2
-bit-lt true = omega arith
-bit-lt false = omega arith
-
 pub number-lt : (bs : List Bool) → number bs < 2 ^ length bs
 number-lt [] = omega arith
 number-lt (true ∷ bs) = rw (number-on (0 * 2 + 1) bs, pow-succ' 2 (length bs)) (omega (arith, number-lt bs))

@@ -49,6 +49,7 @@ told always seen = Always
 told (bit slot e) seen = Bit (getD seen slot 0) e
 told (above slot k) seen = Above (getD seen slot 0) k
 
+-- Whether the field is there. Element [e] is bit e of the bitmap's number, so [0] is the last bit of the bitmap.
 abbrev pub holds : When → Bool
 holds Always = true
 holds (Bit n e) = odd (n / 2 ^ e)
