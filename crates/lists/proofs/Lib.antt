@@ -1,3 +1,4 @@
 pub mod Ruling
 pub mod Listing
+pub mod Entries
 pub mod Relisting

@@ -2,3 +2,4 @@ pub mod Rules
 pub mod Listing
 pub mod List
 pub mod Special
+pub mod Entries

@@ -2,12 +2,15 @@
 ghost use mathlib.Core.Path.{_≡_};
 ghost use mathlib.Core.List.{[]};
 ghost use Prim.Native.Nat.{_+_, _*_};
+ghost use lib.Dec.{eqb};
 ghost use lib.ListN.{length};
+ghost use Rattle.rows.specs.Row.{pick};
 ghost use Rattle.rows.specs.Step.{Ready, Drafted};
 ghost use Rattle.rows.specs.Line.{start, Taken, Puts};
 ghost use Rattle.rows.specs.table.BestContracts.{entry, contractList};
 ghost use Rattle.lists.specs.Listing.{EntryTook, EntryGave};
 ghost use Rattle.lists.specs.List.{entryNumbers, numbersOf, outside, listFault, listRead, listWritten, noList};
+ghost use Rattle.lists.specs.Entries.{counted, listing, withPriority, appended, without};
 ghost use Rattle.records.specs.Answer.{refusal, Written};
 use crate::rules;
 use crate::rules::COUNT_BITS;
@@ -109,6 +112,67 @@ impl ContractList {
         count: 0,
         entries: [Entry::NONE; 8],
     };
+
+    // The list with another priority at a position, from 1. A position that there is not changes nothing.
+    pub fn with_priority(mut self, position: u32, code: u32) -> ContractList
+        ensures { λ r. ⌜ r ≡ withPriority position code self ⌝ }
+    {
+        let k = position as usize;
+        if k < 1 {
+            return self;
+        }
+        if 8 < k {
+            return self;
+        }
+        self.entries[k - 1].priority = code;
+        self
+    }
+
+    // The list with an entry more, behind the others. A full list stays as it is.
+    pub fn with(mut self, entry: Entry) -> ContractList
+        ensures { λ r. ⌜ r ≡ appended entry self ⌝ }
+    {
+        let k = self.count as usize;
+        if k < 8 {
+            self.entries[k] = entry;
+            self.count = self.count + 1;
+        }
+        self
+    }
+
+    // The list without any entry of a pointer.
+    pub fn without(self, pointer: u32) -> ContractList
+        ensures { λ r. ⌜ r ≡ listing (without pointer (counted self)) ⌝ }
+    {
+        let mut left = ContractList::NONE;
+        let n = self.len();
+        let mut i = 0;
+        while i < n {
+            left = left.with_other(pointer, self.entries[i]);
+            i += 1;
+        }
+        left
+    }
+
+    // The number of counted entries.
+    pub fn len(self) -> usize
+        ensures { λ r. ⌜ r ≡ length (counted self) ⌝ }
+    {
+        if self.count < ContractList::MOST {
+            return self.count as usize;
+        }
+        8
+    }
+
+    // The list with an entry more, unless it is one of a pointer.
+    fn with_other(self, pointer: u32, entry: Entry) -> ContractList
+        ensures { λ r. ⌜ r ≡ pick (eqb (entry .pointer) pointer) self (appended entry self) ⌝ }
+    {
+        if entry.pointer == pointer {
+            return self;
+        }
+        self.with(entry)
+    }
 }
 
 // An entry's numbers, and the cursor behind it.

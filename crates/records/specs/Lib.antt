@@ -1,3 +1,4 @@
 pub mod Answer
 pub mod Environment
 pub mod Event
+pub mod Order

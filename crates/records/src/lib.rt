@@ -1,4 +1,7 @@
 // The records of a card as values: each structure is read from lent bytes and written to them.
+ghost use mathlib.Core.Path.{_≡_};
+ghost use Rattle.records.specs.Order.{recordAt};
+
 pub mod environment;
 pub mod event;
 
@@ -8,7 +11,50 @@ pub struct Refusal {
     pub place: u32,
 }
 
+impl Refusal {
+    // The ones that have no place in a record.
+    pub const NONE: Refusal = Refusal {
+        number: 0,
+        place: 0,
+    };
+
+    pub const WRONG_LENGTH: Refusal = Refusal {
+        number: 1,
+        place: 0,
+    };
+
+    pub const NONE_ELIGIBLE: Refusal = Refusal {
+        number: 8,
+        place: 0,
+    };
+
+    pub const NO_POSITION: Refusal = Refusal {
+        number: 9,
+        place: 0,
+    };
+
+    pub const OUTSIDE_LIMITS: Refusal = Refusal {
+        number: 11,
+        place: 0,
+    };
+}
+
 // The bytes and the bits of a record.
 pub const BYTES: usize = 29;
 
 pub const BITS: u32 = 232;
+
+// The record at a pointer, from 1, as a part of a lent file; an empty part where the file has none.
+pub fn part(file: &[u8], pointer: u32) -> &[u8]
+    ensures { λ r. ⌜ now r ≡ recordAt (now (file .entry)) pointer ⌝ }
+{
+    let k = pointer as usize;
+    if k < 1 {
+        return &file[0..0];
+    }
+    if file.len() / BYTES < k {
+        return &file[0..0];
+    }
+    let start = BYTES * (k - 1);
+    &file[start..start + BYTES]
+}

@@ -1,0 +1,136 @@
+-- Laws of what operations do to the entries of a contract list.
+use Prim.Native.Nat.{ℕ, zero, suc, _+_, _-_, _≤_, _<_, min}
+use mathlib.Core.List.{List, [], _∷_, _++_, append-nil}
+use mathlib.Core.Bool.{Bool, true, false}
+use mathlib.Core.Path.{_≡_, refl, sym, ap, _∙_}
+use native.Mathlib.Omega.{arith}
+use native.Mathlib.Numerals.{add-one}
+use lib.Dec.{eqb}
+use lib.ListN.{length, getD, set, take, length-append, length-take, List·getD-append, List·getD-eq-default}
+use lib.Seq.{getD-append-seam, take-suc, getD-take}
+use borrow.Author.Tests.{ne-eqb, lt-ltb}
+use Rattle.rows.specs.Row.{pick}
+use Rattle.records.specs.Answer.{named}
+use Rattle.lists.specs.List.{entryOf}
+use Rattle.lists.specs.Entries.{counted, listing, recoded, recodedAt, withPriority, without, appended}
+use Rattle.lists.specs.declared.list.Entry.{Entry}
+use Rattle.lists.specs.declared.list.ContractList.{ContractList}
+
+-- Position 0 is none.
+pub recoded-none : (code : ℕ) (es : List Entry) → recodedAt 0 code es ≡ es
+recoded-none code [] = refl
+recoded-none code (e ∷ es) = ap (λ (l : List Entry). e ∷ l) (recoded-none code es)
+
+-- Nor is a position past the end.
+pub recoded-past : (position code : ℕ) (es : List Entry) → length es < position → recodedAt position code es ≡ es
+recoded-past position code [] h = refl
+recoded-past position code (e ∷ es) h =
+    let other : eqb position 1 ≡ false = ne-eqb position 1 (λ e. omega arith) in
+    rw (other, recoded-past (position - 1) code es (omega arith))
+
+-- Any other is a store.
+pub recoded-set : (k code : ℕ) (es : List Entry) (d : Entry) → k < length es
+    → set es k (recoded code (getD es k d)) ≡ recodedAt (suc k) code es
+recoded-set k code [] d h = absurd (omega arith)
+recoded-set zero code (e ∷ es) d h = ap (λ (l : List Entry). recoded code e ∷ l) (sym (recoded-none code es))
+recoded-set (suc k) code (e ∷ es) d h =
+    let other : eqb (suc (suc k)) 1 ≡ false = ne-eqb (suc (suc k)) 1 (λ e. omega arith) in
+    let down : suc (suc k) - 1 ≡ suc k = omega arith in
+    rw (other, down) (ap (λ (l : List Entry). e ∷ l) (recoded-set k code es d (omega arith)))
+
+module _ (l : ContractList) (position code : ℕ) where
+  same-count : (es : List Entry) → es ≡ recodedAt position code (l .entries)
+      → record { count = l .count; entries = es } ≡ withPriority position code l
+  same-count es e = ap (λ (x : List Entry). record { count = l .count; entries = x }) e
+
+  -- The same of a list.
+  pub no-position : position < 1 → l ≡ withPriority position code l
+  no-position h =
+      let zeroth : position ≡ 0 = omega arith in
+      same-count (l .entries) (rw zeroth (sym (recoded-none code (l .entries))))
+
+  pub no-room : length (l .entries) < position → l ≡ withPriority position code l
+  no-room h = same-count (l .entries) (sym (recoded-past position code (l .entries) h))
+
+  pub stored : (d : Entry) → 1 ≤ position → position ≤ length (l .entries)
+      → record { count = l .count; entries = set (l .entries) (position - 1) (recoded code (getD (l .entries) (position - 1) d)) } ≡ withPriority position code l
+  stored d h k =
+      let up : suc (position - 1) ≡ position = omega arith in
+      same-count _ (rw up at (recoded-set (position - 1) code (l .entries) d (omega arith)))
+
+module _ {A : Type 0} (d : A) where
+  -- Past the end of a list, one element more changes nothing.
+  named-past : (i n : ℕ) (l : List A) (a : A) → length l < i → named d i n l ≡ named d i n (l ++ (a ∷ []))
+  named-past i zero l a h = refl
+  named-past i (suc n) l a h =
+      let short : length l ≤ i = omega arith in
+      let long : length (l ++ (a ∷ [])) ≤ i = simp length-append (omega arith) in
+      rw (List·getD-eq-default l d short, List·getD-eq-default (l ++ (a ∷ [])) d long, named-past (suc i) n l a (omega arith))
+
+  -- The first place past the end is that of an element more.
+  named-set : (i k n : ℕ) (l : List A) (a : A) → length l ≡ i + k → k < n → set (named d i n l) k a ≡ named d i n (l ++ (a ∷ []))
+  named-set i k zero l a e h = absurd (omega arith)
+  named-set i zero (suc n) l a e h =
+      let here : length l ≡ i = omega arith in
+      let own : getD (l ++ (a ∷ [])) i d ≡ a = rw (← here) (getD-append-seam l a [] d) in
+      rw (own, named-past (suc i) n l a (omega arith))
+  named-set i (suc k) (suc n) l a e h =
+      let inside : i < length l = omega arith in
+      rw (List·getD-append l (a ∷ []) d i inside, named-set (suc i) k n l a (omega arith) (omega arith))
+
+-- A list that is not full gets an entry more behind the others.
+pub appended-listing : (e : Entry) (es : List Entry) → length es < 8 → appended e (listing es) ≡ listing (es ++ (e ∷ []))
+appended-listing e es h =
+    rw (lt-ltb _ _ h, length-append) (
+    ap (λ (l : List Entry). record { count = length es + 1; entries = l }) (named-set (entryOf [] 0) 0 (length es) 8 es e (omega arith) h)
+    )
+
+-- What is left of two runs of entries.
+without-append : (pointer : ℕ) (fs es : List Entry) → without pointer (fs ++ es) ≡ without pointer fs ++ without pointer es
+without-append pointer [] es = refl
+without-append pointer (f ∷ fs) es = go (eqb (f .pointer) pointer) (without-append pointer fs es)
+  where
+    go : (t : Bool) → without pointer (fs ++ es) ≡ without pointer fs ++ without pointer es
+        → pick t (without pointer (fs ++ es)) (f ∷ without pointer (fs ++ es)) ≡ pick t (without pointer fs) (f ∷ without pointer fs) ++ without pointer es
+    go true rest = rest
+    go false rest = ap (λ (l : List Entry). f ∷ l) rest
+
+pub length-without : (pointer : ℕ) (es : List Entry) → length (without pointer es) ≤ length es
+length-without pointer [] = omega arith
+length-without pointer (e ∷ es) = go (eqb (e .pointer) pointer) (length-without pointer es)
+  where
+    go : (t : Bool) → length (without pointer es) ≤ length es → length (pick t (without pointer es) (e ∷ without pointer es)) ≤ suc (length es)
+    go true h = omega arith
+    go false h = omega arith
+
+-- There are at most as many counted entries as there is room for.
+pub length-counted : (l : ContractList) → length (l .entries) ≡ 8 → length (counted l) ≡ min (l .count) 8
+length-counted l eight = rw (length-take, eight)
+
+-- One counted entry more is left out or kept.
+pub without-next : (l left : ContractList) (pointer i : ℕ) (d : Entry) → length (l .entries) ≡ 8 → i < length (counted l)
+    → left ≡ listing (without pointer (take i (counted l)))
+    → pick (eqb (getD (l .entries) i d .pointer) pointer) left (appended (getD (l .entries) i d) left)
+    ≡ listing (without pointer (take (i + 1) (counted l)))
+without-next l left pointer i d eight more so-far =
+    let up : i + 1 ≡ suc i = add-one i in
+    let own : getD (counted l) i d ≡ e = getD-take (l .count) (l .entries) i d inside in
+    let rest : without pointer (take (i + 1) (counted l)) ≡ kept ++ without pointer (e ∷ []) =
+    rw (up, take-suc (counted l) i d more, own) (without-append pointer (take i (counted l)) (e ∷ [])) in
+    rw so-far (go (eqb (e .pointer) pointer)) ∙ ap listing (sym rest)
+  where
+    e : Entry
+    e = getD (l .entries) i d
+
+    inside : i < l .count
+    inside = omega (arith, length-counted l eight, more)
+
+    kept : List Entry
+    kept = without pointer (take i (counted l))
+
+    few : length kept < 8
+    few = omega (arith, length-without pointer (take i (counted l)), length-take i (counted l), length-counted l eight, more)
+
+    go : (t : Bool) → pick t (listing kept) (appended e (listing kept)) ≡ listing (kept ++ pick t [] (e ∷ []))
+    go true = rw append-nil
+    go false = appended-listing e kept few
