@@ -2,3 +2,5 @@ pub mod Ruling
 pub mod Listing
 pub mod Entries
 pub mod Relisting
+pub mod Kept
+pub mod Recoding

@@ -1,12 +1,14 @@
 -- What operations do to a contract list: they speak of its counted entries, in order.
-use Prim.Native.Nat.{ℕ, _+_, _-_}
+use Prim.Native.Nat.{ℕ, _+_, _-_, _*_}
 use mathlib.Core.List.{List, [], _∷_}
 use lib.Dec.{eqb, ltb}
 use lib.ListN.{length, set, take}
 use Rattle.rows.specs.Row.{pick}
+use Rattle.rows.specs.Change.{placeOf}
+use Rattle.rows.specs.table.BestContracts.{contractList}
 use Rattle.records.specs.Answer.{named}
 use Rattle.records.specs.Order.{Attempt, got, stopped}
-use Rattle.lists.specs.List.{entryOf, listRead}
+use Rattle.lists.specs.List.{entryOf, numbersOf, listRead}
 use Rattle.lists.specs.declared.list.Entry.{Entry}
 use Rattle.lists.specs.declared.list.ContractList.{ContractList}
 use Rattle.lists.specs.declared.list.ListRead.{ListRead}
@@ -43,6 +45,10 @@ recodedAt position code (e ∷ es) = pick (eqb position 1) (recoded code e) e �
 -- A list with another priority at a position.
 abbrev pub withPriority : ℕ → ℕ → ContractList → ContractList
 withPriority position code l = record { count = l .count; entries = recodedAt position code (l .entries) }
+
+-- Where the four bits of its priority stand in the record: slot 6 × position - 1 of the table.
+abbrev pub priorityPlace : ℕ → ContractList → ℕ → ℕ
+priorityPlace n l position = placeOf (contractList n) (numbersOf l) (6 * position - 1)
 
 -- Entries without any of a pointer.
 abbrev pub without : ℕ → List Entry → List Entry

@@ -2,6 +2,7 @@ pub mod Boxes
 pub mod Walked
 pub mod RoundTrip
 pub mod Raising
+pub mod Changing
 pub mod Stepping
 pub mod Taking
 pub mod Giving

@@ -48,7 +48,7 @@ module _ (us xs ys : List ℕ) (agree : (s : ℕ) → getD us s 0 ≡ 0 → getD
   told-same (bit s e) n ss z = (rw (seen-same n s z.0), z.1)
   told-same (above s k) n ss z = (rw (seen-same n s z.0), z.1)
 
-  frame-same : (rs : List Row) (n : ℕ) → AllZero us (named rs) → frameOn rs (take n xs) (drop n xs) ≡ frameOn rs (take n ys) (drop n ys)
+  pub frame-same : (rs : List Row) (n : ℕ) → AllZero us (named rs) → frameOn rs (take n xs) (drop n xs) ≡ frameOn rs (take n ys) (drop n ys)
   frame-same [] n z = refl
   frame-same (r ∷ rs) n z =
       let k : ℕ = length (r .boxes) in

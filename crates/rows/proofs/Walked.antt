@@ -24,7 +24,7 @@ not-refused true o n at i h = h
 not-refused false o n at i h = never h
 
 -- A field has as many boxes where it is absent.
-length-boxes : (r : Row) (seen : List ℕ) → length (boxesOf r seen) ≡ length (r .boxes)
+pub length-boxes : (r : Row) (seen : List ℕ) → length (boxesOf r seen) ≡ length (r .boxes)
 length-boxes r seen = length-there (told (r .cond) seen) (r .boxes)
 
 -- A frame has a box for each slot.

@@ -1,0 +1,214 @@
+-- What is known of a contract list that was read: its entries keep the rule of lists.
+use Prim.Native.Nat.{ℕ, zero, suc, _+_, _/_, _≤_, _<_}
+use mathlib.Core.List.{List, [], _∷_, _++_, map, append-assoc, append-nil}
+use mathlib.Core.Bool.{Bool, true, false, _&&_, _||_, not, true≢false}
+use mathlib.Core.Path.{_≡_, refl, sym, ap, _∙_}
+use native.Mathlib.Omega.{arith}
+use lib.Dec.{eqb, ltb, leb}
+use lib.ListN.{length, getD, take, length-take}
+use lib.Seq.{getD-take}
+use borrow.Author.Tests.{eqb-true, eqb-false, leb-true, ltb-false, not-true, ne-eqb}
+use Rattle.bits.specs.Bits.{spread}
+use Rattle.rows.specs.Row.{pick}
+use Rattle.rows.specs.Walk.{Outcome, done, refused, andThen, read}
+use Rattle.rows.specs.table.BestContracts.{contractList}
+use Rattle.rows.proofs.Changing.{judged-read, passed}
+use Rattle.records.specs.Answer.{refusal, answered}
+use Rattle.records.proofs.Inverse.{read-refused}
+use Rattle.lists.specs.Listing.{column, obeying, readList}
+use Rattle.lists.specs.Rules.{among, keeps, faultAfter}
+use Rattle.lists.specs.List.{listOf, gotList, noList, listFault, outside, listRead}
+use Rattle.lists.specs.Entries.{counted}
+use Rattle.lists.specs.declared.list.Entry.{Entry}
+use Rattle.lists.specs.declared.list.ContractList.{ContractList}
+use Rattle.lists.specs.declared.list.ListRead.{ListRead}
+
+-- Pointers keep the rule behind some others: from 1 to a limit, and none twice.
+abbrev pub Apart : ℕ → List ℕ → List ℕ → Type 0
+Apart limit before [] = Unit {0}
+Apart limit before (p ∷ ps) = (1 ≤ p) × (p ≤ limit) × (among p before ≡ false) × Apart limit (before ++ (p ∷ [])) ps
+
+-- Each bitmap has every element but the network.
+abbrev pub Full : ℕ → List ℕ → Type 0
+Full full [] = Unit {0}
+Full full (b ∷ bs) = (b / 2 ≡ full) × Full full bs
+
+all-four : (a b c d : Bool) → (a && b && c && d) ≡ true → (a ≡ true) × (b ≡ true) × (c ≡ true) × (d ≡ true)
+all-four true true true true h = (refl, refl, refl, refl)
+all-four true true true false h = absurd (true≢false (sym h))
+all-four true true false d h = absurd (true≢false (sym h))
+all-four true false c d h = absurd (true≢false (sym h))
+all-four false b c d h = absurd (true≢false (sym h))
+
+-- Where no entry is at fault, each keeps the rule.
+none-at-fault : (full limit : ℕ) (before bs ps : List ℕ) → length bs ≡ length ps → faultAfter full limit before bs ps ≡ 0
+    → Full full bs × Apart limit before ps
+none-at-fault full limit before [] [] same h = (tt, tt)
+none-at-fault full limit before [] (p ∷ ps) same h = absurd (omega arith)
+none-at-fault full limit before (b ∷ bs) [] same h = absurd (omega arith)
+none-at-fault full limit before (b ∷ bs) (p ∷ ps) same h =
+    go (keeps full limit before b p) refl h (none-at-fault full limit (before ++ (p ∷ [])) bs ps (omega arith))
+  where
+    rest : ℕ
+    rest = faultAfter full limit (before ++ (p ∷ [])) bs ps
+
+    go : (t : Bool) → keeps full limit before b p ≡ t → pick t rest (suc (length before)) ≡ 0
+        → (rest ≡ 0 → Full full bs × Apart limit (before ++ (p ∷ [])) ps)
+        → ((b / 2 ≡ full) × Full full bs) × ((1 ≤ p) × (p ≤ limit) × (among p before ≡ false) × Apart limit (before ++ (p ∷ [])) ps)
+    go true e h more =
+        let (fills, low, high, new) = all-four (eqb (b / 2) full) (leb 1 p) (leb p limit) (not (among p before)) e in
+        let (bitmaps, pointers) = more h in
+        ((eqb-true _ _ fills, bitmaps), (leb-true _ _ low, leb-true _ _ high, not-true _ new, pointers))
+    go false e h more = absurd (omega arith)
+
+-- A contract list that was read.
+pub record WasRead (n : ℕ) (bytes : List ℕ) (l : ContractList) : Type 0 where
+  pub vals : List ℕ
+  pub end : ℕ
+  pub slots : read (contractList n) (spread 8 bytes) ≡ done vals end
+  pub value : listOf vals ≡ l
+  pub limits : outside n ≡ false
+  pub long : length bytes ≡ 29
+  pub obeys : listFault n vals ≡ 0
+
+pub list-was-read : (n : ℕ) (bytes : List ℕ) (l : ContractList) → listRead n bytes ≡ gotList l → WasRead n bytes l
+unfolding readList
+list-was-read n bytes l = go (eqb (length bytes) 29) refl (outside n) refl (read (contractList n) (spread 8 bytes)) refl
+  where
+    apart : (r : ListRead) → r ≡ gotList l → r .refusal .number ≡ 0
+    apart r h = ap (λ (x : ListRead). x .refusal .number) h
+
+    kept : (vals : List ℕ) (end : ℕ) (t : Bool) → eqb (listFault n vals) 0 ≡ t
+        → answered (λ xs. gotList (listOf xs)) noList (pick t (done vals end) (refused 6 (listFault n vals) 0)) ≡ gotList l
+        → (listFault n vals ≡ 0) × (listOf vals ≡ l)
+    kept vals end true e h = (eqb-true _ _ e, ap (λ (x : ListRead). x .list) h)
+    kept vals end false e h = absurd (let six : _≡_ {A = ℕ} 6 0 = apart _ h in omega arith)
+
+    go : (b : Bool) → eqb (length bytes) 29 ≡ b → (out : Bool) → outside n ≡ out → (o : Outcome (List ℕ)) → read (contractList n) (spread 8 bytes) ≡ o
+        → pick b (pick out (noList (refusal 11 0)) (answered (λ xs. gotList (listOf xs)) noList (andThen o (λ vals end. obeying (listFault n vals) vals end)))) (noList (refusal 1 0)) ≡ gotList l
+        → WasRead n bytes l
+    go true w false i (done vals end) r h =
+        let (obeys, value) = kept vals end (eqb (listFault n vals) 0) refl h in
+        record { vals = vals; end = end; slots = r; value = value; limits = i; long = eqb-true _ _ w; obeys = obeys }
+    go true w false i (refused m p j) r h = absurd (read-refused (contractList n) (spread 8 bytes) r (apart _ h))
+    go true w true i o r h = absurd (let eleven : _≡_ {A = ℕ} 11 0 = apart _ h in omega arith)
+    go false w out i o r h = absurd (let one : _≡_ {A = ℕ} 1 0 = apart _ h in omega arith)
+
+-- Its count is at most n.
+pub count-most : (n : ℕ) (bs : List Bool) {vals : List ℕ} {end : ℕ} → read (contractList n) bs ≡ done vals end → getD vals 0 0 ≤ n
+unfolding contractList
+count-most n bs {vals} h =
+    let first = passed (pick (ltb n (getD (take 1 vals) 0 0)) 4 0) _ 0 0 (judged-read (contractList n) bs h) .0 in
+    rw (getD-take 1 vals 0 0 (omega arith)) at (most (ltb n (getD (take 1 vals) 0 0)) refl first)
+  where
+    most : (t : Bool) → ltb n (getD (take 1 vals) 0 0) ≡ t → _≡_ {A = ℕ} (pick t 4 0) 0 → getD (take 1 vals) 0 0 ≤ n
+    most true e z = absurd (omega arith)
+    most false e z = ltb-false _ _ e
+
+take-map : {A B : Type 0} (f : A → B) (k : ℕ) (l : List A) → take k (map f l) ≡ map f (take k l)
+take-map f zero l = refl
+take-map f (suc k) [] = refl
+take-map f (suc k) (a ∷ l) = ap (λ (x : List _). f a ∷ x) (take-map f k l)
+
+neither : (a b : Bool) → a || b ≡ false → (a ≡ false) × (b ≡ false)
+neither true b h = absurd (true≢false h)
+neither false b h = (refl, h)
+
+-- No entry of the slots is at fault.
+pub columns-kept : (n : ℕ) (vals : List ℕ) → listFault n vals ≡ 0
+    → Full 3 (take (getD vals 0 0) (column 8 6 1 vals)) × Apart n [] (take (getD vals 0 0) (column 8 6 6 vals))
+columns-kept n vals obeys =
+    let count : ℕ = getD vals 0 0 in
+    let as-many : length (take count (column 8 6 1 vals)) ≡ length (take count (column 8 6 6 vals)) =
+    length-take count (column 8 6 1 vals) ∙ sym (length-take count (column 8 6 6 vals)) in
+    none-at-fault 3 n [] (take count (column 8 6 1 vals)) (take count (column 8 6 6 vals)) as-many obeys
+
+-- The counted entries of a list that was read keep the rule.
+pub record Kept (n : ℕ) (l : ContractList) : Type 0 where
+  pub room : (1 ≤ n) × (n ≤ 8)
+  pub eight : length (l .entries) ≡ 8
+  pub full : Full 3 (map (λ (e : Entry). e .bitmap) (counted l))
+  pub apart : Apart n [] (map (λ (e : Entry). e .pointer) (counted l))
+
+pub list-kept : (n : ℕ) (bytes : List ℕ) (l : ContractList) → listRead n bytes ≡ gotList l → Kept n l
+list-kept n bytes l h = let w = list-was-read n bytes l h in rw (← w .value) (kept (w .vals) (w .limits) (w .obeys))
+  where
+    kept : (vals : List ℕ) → outside n ≡ false → listFault n vals ≡ 0 → Kept n (listOf vals)
+    kept vals inside obeys =
+        let count : ℕ = getD vals 0 0 in
+        let bitmaps : take count (column 8 6 1 vals) ≡ map (λ (e : Entry). e .bitmap) (counted (listOf vals)) = take-map _ count (listOf vals .entries) in
+        let pointers : take count (column 8 6 6 vals) ≡ map (λ (e : Entry). e .pointer) (counted (listOf vals)) = take-map _ count (listOf vals .entries) in
+        let rule = columns-kept n vals obeys in
+        let (low, high) = neither (ltb n 1) (ltb 8 n) inside in
+        record { room = (ltb-false _ _ low, ltb-false _ _ high); eight = refl; full = rw bitmaps at (rule .0); apart = rw pointers at (rule .1) }
+
+-- How many of the pointers from 1 to k are not among some.
+abbrev vacant : ℕ → List ℕ → ℕ
+vacant zero ps = 0
+vacant (suc k) ps = pick (among (suc k) ps) 0 1 + vacant k ps
+
+or-none : (t : Bool) → (t || false) ≡ t
+or-none true = refl
+or-none false = refl
+
+among-last : (q : ℕ) (ps : List ℕ) (p : ℕ) → among q (ps ++ (p ∷ [])) ≡ (among q ps || eqb p q)
+among-last q [] p = or-none (eqb p q)
+among-last q (x ∷ ps) p = go (eqb x q) (among-last q ps p)
+  where
+    go : (t : Bool) → among q (ps ++ (p ∷ [])) ≡ (among q ps || eqb p q) → (t || among q (ps ++ (p ∷ []))) ≡ ((t || among q ps) || eqb p q)
+    go true rest = refl
+    go false rest = rest
+
+-- A pointer above k takes none of the vacant ones up to k;
+above-none : (k : ℕ) (ps : List ℕ) (p : ℕ) → k < p → vacant k (ps ++ (p ∷ [])) ≡ vacant k ps
+above-none zero ps p h = refl
+above-none (suc k) ps p h =
+    let other : eqb p (suc k) ≡ false = ne-eqb p (suc k) (λ e. omega arith) in
+    rw (among-last (suc k) ps p, other, or-none (among (suc k) ps), above-none k ps p (omega arith))
+
+-- one that is vacant takes one;
+takes-one : (k : ℕ) (ps : List ℕ) (p : ℕ) → 1 ≤ p → p ≤ k → among p ps ≡ false → vacant k ps ≡ suc (vacant k (ps ++ (p ∷ [])))
+takes-one zero ps p low high new = absurd (omega arith)
+takes-one (suc k) ps p low high new = go (eqb p (suc k)) refl (takes-one k ps p low)
+  where
+    go : (t : Bool) → eqb p (suc k) ≡ t → (p ≤ k → among p ps ≡ false → vacant k ps ≡ suc (vacant k (ps ++ (p ∷ []))))
+        → vacant (suc k) ps ≡ suc (vacant (suc k) (ps ++ (p ∷ [])))
+    go true e rest =
+        let own : p ≡ suc k = eqb-true _ _ e in
+        let unused : among (suc k) ps ≡ false = rw (← own) new in
+        rw (among-last (suc k) ps p, e, unused, above-none k ps p (omega arith)) (omega arith)
+    go false e rest =
+        let other : p ≡ suc k → ⊥ = eqb-false _ _ e in
+        let under : p ≤ k = omega arith in
+        let same : among (suc k) (ps ++ (p ∷ [])) ≡ among (suc k) ps = rw (among-last (suc k) ps p, e) (or-none (among (suc k) ps)) in
+        rw same (omega (arith, rest under new))
+
+-- and where one is vacant, there is one.
+one-vacant : (k : ℕ) (ps : List ℕ) (q : ℕ) → 1 ≤ q → q ≤ k → among q ps ≡ false → 1 ≤ vacant k ps
+one-vacant zero ps q low high new = absurd (omega arith)
+one-vacant (suc k) ps q low high new = go (eqb q (suc k)) refl (one-vacant k ps q low)
+  where
+    go : (t : Bool) → eqb q (suc k) ≡ t → (q ≤ k → among q ps ≡ false → 1 ≤ vacant k ps) → 1 ≤ vacant (suc k) ps
+    go true e rest = let unused : among (suc k) ps ≡ false = rw (← eqb-true q (suc k) e) new in rw unused (omega arith)
+    go false e rest =
+        let other : q ≡ suc k → ⊥ = eqb-false _ _ e in
+        let under : q ≤ k = omega arith in
+        omega (arith, rest under new)
+
+all-vacant : (k : ℕ) → vacant k [] ≡ k
+all-vacant zero = refl
+all-vacant (suc k) = rw (all-vacant k) (omega arith)
+
+-- So pointers that keep the rule take one each.
+take-each : (k : ℕ) (before ps : List ℕ) → Apart k before ps → length ps + vacant k (before ++ ps) ≡ vacant k before
+take-each k before [] kept = rw append-nil (omega arith)
+take-each k before (p ∷ ps) (low, high, new, rest) =
+    let whole : before ++ (p ∷ ps) ≡ (before ++ (p ∷ [])) ++ ps = sym (append-assoc before (p ∷ []) ps) in
+    let own = takes-one k before p low high new in
+    let others = take-each k (before ++ (p ∷ [])) ps rest in
+    rw whole (omega (arith, own, others))
+
+-- A list whose pointers leave one vacant has room for another entry.
+pub room-left : (n q : ℕ) (ps : List ℕ) → Apart n [] ps → 1 ≤ q → q ≤ n → among q ps ≡ false → length ps < n
+room-left n q ps kept low high new =
+    omega (arith, take-each n [] ps kept, all-vacant n, one-vacant n ps q low high new)

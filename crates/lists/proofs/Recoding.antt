@@ -1,0 +1,111 @@
+-- A change of priority alters four bits of the record.
+use Prim.Native.Nat.{ℕ, zero, suc, _+_, _-_, _*_, _/_, _≤_, _<_}
+use mathlib.Core.List.{List, [], _∷_}
+use mathlib.Core.Bool.{Bool, false}
+use mathlib.Core.Path.{_≡_, refl, sym, ap, _∙_}
+use native.Mathlib.Omega.{arith}
+use lib.Dec.{eqb}
+use lib.ListN.{length, getD, set, take, length-take}
+use lib.Seq.{getD-take}
+use borrow.Author.Tests.{eq-eqb, ne-eqb}
+use Rattle.bits.specs.Bits.{cut, spread}
+use Rattle.bits.proofs.Cutting.{length-spread}
+use Rattle.rows.specs.Row.{Row, pick}
+use Rattle.rows.specs.Walk.{done, read, write, there, slots}
+use Rattle.rows.specs.Raise.{named}
+use Rattle.rows.specs.Change.{placeOf, withBox, widthOn, brokenBy}
+use Rattle.rows.specs.declared.When.the-variants.{Bit}
+use Rattle.rows.specs.table.BestContracts.{contractList}
+use Rattle.rows.proofs.RoundTrip.{read-slots}
+use Rattle.rows.proofs.Changing.{refers, change-law}
+use Rattle.records.specs.Answer.{accepted, from}
+use Rattle.records.proofs.Inverse.{from-all}
+use Rattle.lists.specs.List.{numbersOf, listOf, outside, gotList, listFault, listRead, listWritten}
+use Rattle.lists.specs.Listing.{column, writeList}
+use Rattle.lists.specs.Entries.{withPriority, priorityPlace}
+use Rattle.lists.specs.declared.list.ContractList.{ContractList}
+use Rattle.lists.proofs.Kept.{Full, list-was-read, list-kept, count-most, columns-kept}
+
+-- What computing says of the slot of a priority.
+record Slot (n code : ℕ) (vals : List ℕ) (k : ℕ) : Type 0 where
+  free : refers (5 + 6 * k) (named (contractList n)) ≡ false
+  numbers : numbersOf (withPriority (suc k) code (listOf vals)) ≡ set (from 0 49 vals) (5 + 6 * k) code
+  fault : listFault n (set (from 0 49 vals) (5 + 6 * k) code) ≡ listFault n (from 0 49 vals)
+  rule : brokenBy (contractList n) (5 + 6 * k) code (from 0 49 vals) ≡ pick (eqb code 13) 4 0
+  width : widthOn (contractList n) [] (from 0 49 vals) (5 + 6 * k) ≡ getD (there (Bit (getD (column 8 6 1 vals) k 0) 1) (4 ∷ 8 ∷ 4 ∷ [])) 2 0
+
+slot : (n code : ℕ) (vals : List ℕ) (k : ℕ) → k < 8 → Slot n code vals k
+unfolding contractList
+slot n code vals zero h = record { free = refl; numbers = refl; fault = refl; rule = refl; width = refl }
+slot n code vals (suc zero) h = record { free = refl; numbers = refl; fault = refl; rule = refl; width = refl }
+slot n code vals (suc (suc zero)) h = record { free = refl; numbers = refl; fault = refl; rule = refl; width = refl }
+slot n code vals (suc (suc (suc zero))) h = record { free = refl; numbers = refl; fault = refl; rule = refl; width = refl }
+slot n code vals (suc (suc (suc (suc zero)))) h = record { free = refl; numbers = refl; fault = refl; rule = refl; width = refl }
+slot n code vals (suc (suc (suc (suc (suc zero))))) h = record { free = refl; numbers = refl; fault = refl; rule = refl; width = refl }
+slot n code vals (suc (suc (suc (suc (suc (suc zero)))))) h = record { free = refl; numbers = refl; fault = refl; rule = refl; width = refl }
+slot n code vals (suc (suc (suc (suc (suc (suc (suc zero))))))) h = record { free = refl; numbers = refl; fault = refl; rule = refl; width = refl }
+slot n code vals (suc (suc (suc (suc (suc (suc (suc (suc k)))))))) h = absurd (omega arith)
+
+full-at : (full : ℕ) (bs : List ℕ) (i : ℕ) → Full full bs → i < length bs → getD bs i 0 / 2 ≡ full
+full-at full [] i f h = absurd (omega arith)
+full-at full (b ∷ bs) zero f h = f .0
+full-at full (b ∷ bs) (suc i) f h = full-at full bs i (f .1) (omega arith)
+
+slots-list : (n : ℕ) → slots (contractList n) ≡ 49
+unfolding contractList
+slots-list n = refl
+
+-- A list whose table is written and that keeps the rule is written.
+list-accepted : (fault : List ℕ → ℕ) (outside : Bool) (rows : List Row) (vals before : List ℕ) (bs : List Bool) (end : ℕ) → length before ≡ 29
+    → outside ≡ false → write rows 232 vals ≡ done bs end → fault vals ≡ 0
+    → writeList fault outside rows vals before ≡ accepted (cut 8 8 (length before) bs)
+unfolding writeList
+list-accepted fault outside rows vals before bs end long inside w obeys = rw (eq-eqb _ _ long, inside, w, eq-eqb _ _ obeys)
+
+module _ (n code : ℕ) (before : List ℕ) (vals : List ℕ) (end : ℕ) (k : ℕ)
+    (reads : read (contractList n) (spread 8 before) ≡ done vals end)
+    (limits : outside n ≡ false) (long : length before ≡ 29) (obeys : listFault n vals ≡ 0)
+    (room : k < 8) (counted : k < getD vals 0 0) (fits : code ≤ 15) (defined : code ≡ 13 → ⊥) where
+  all : from 0 49 vals ≡ vals
+  unfolding contractList
+  all = from-all 49 vals (read-slots (contractList n) (spread 8 before) reads)
+
+  facts : Slot n code vals k
+  facts = slot n code vals k room
+
+  four : widthOn (contractList n) [] vals (5 + 6 * k) ≡ 4
+  four =
+      let many : k < length (take (getD vals 0 0) (column 8 6 1 vals)) = rw length-take (omega arith) in
+      let full = full-at 3 (take (getD vals 0 0) (column 8 6 1 vals)) k (columns-kept n vals obeys .0) many in
+      let three : getD (column 8 6 1 vals) k 0 / 2 ≡ 3 = rw (getD-take (getD vals 0 0) (column 8 6 1 vals) k 0 counted) at full in
+      rw all at (facts .width) ∙ rw three
+
+  allowed : brokenBy (contractList n) (5 + 6 * k) code vals ≡ 0
+  allowed = rw all at (facts .rule) ∙ rw (ne-eqb _ _ defined)
+
+  recoded : listWritten n (withPriority (suc k) code (listOf vals)) before
+      ≡ accepted (cut 8 8 (length before) (withBox (placeOf (contractList n) vals (5 + 6 * k)) 4 code (spread 8 before)))
+  recoded =
+      let numbers : numbersOf (withPriority (suc k) code (listOf vals)) ≡ set vals (5 + 6 * k) code = rw all at (facts .numbers) in
+      let kept : listFault n (set vals (5 + 6 * k) code) ≡ 0 = rw all at (facts .fault) ∙ obeys in
+      let bits : length (spread 8 before) ≡ 232 = length-spread 8 before ∙ rw long in
+      let inside : 5 + 6 * k < slots (contractList n) = rw (slots-list n) (omega arith) in
+      let w = rw (bits, four) at (change-law (contractList n) (spread 8 before) (5 + 6 * k) code reads inside (facts .free) (rw four (omega arith)) allowed) in
+      rw numbers (list-accepted (listFault n) (outside n) (contractList n) (set vals (5 + 6 * k) code) before _ end long limits w kept)
+
+-- A list that was read, with one priority changed, is written as the record with just those four bits changed.
+pub list-recoded : (n : ℕ) (before : List ℕ) (l : ContractList) (position code : ℕ) → listRead n before ≡ gotList l
+    → 1 ≤ position → position ≤ l .count → code ≤ 15 → (code ≡ 13 → ⊥)
+    → listWritten n (withPriority position code l) before
+    ≡ accepted (cut 8 8 (length before) (withBox (priorityPlace n l position) 4 code (spread 8 before)))
+list-recoded n before l position code h low high fits defined =
+    let w = list-was-read n before l h in
+    let vals : List ℕ = w .vals in
+    let most : getD vals 0 0 ≤ n = count-most n (spread 8 before) (w .slots) in
+    let eight : n ≤ 8 = list-kept n before l h .room .1 in
+    let counts : getD vals 0 0 ≡ l .count = ap (λ (x : ContractList). x .count) (w .value) in
+    let up : suc (position - 1) ≡ position = omega arith in
+    let place : 5 + 6 * (position - 1) ≡ 6 * position - 1 = omega arith in
+    let numbers : numbersOf l ≡ vals = sym (ap numbersOf (w .value)) ∙ (all n code before vals (w .end) (position - 1) (w .slots) (w .limits) (w .long) (w .obeys) (omega arith) (omega arith) fits defined) in
+    let done = rw (up, place) at (recoded n code before vals (w .end) (position - 1) (w .slots) (w .limits) (w .long) (w .obeys) (omega arith) (omega arith) fits defined) in
+    rw numbers (ap (λ (x : ContractList). listWritten n (withPriority position code x) before) (sym (w .value)) ∙ done)
