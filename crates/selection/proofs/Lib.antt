@@ -1,0 +1,4 @@
+pub mod Choosing
+pub mod Refusals
+pub mod Least
+pub mod Laws

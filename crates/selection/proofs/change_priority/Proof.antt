@@ -1,0 +1,62 @@
+use mathlib.Core.Path.{ap, _∙_}
+use Rattle.lists.specs.List.{listWritten}
+use Rattle.lists.specs.declared.list.ContractList.{ContractList}
+use borrow.Author.Tests.{eq-eqb, ne-eqb, lt-ltb, le-ltb}
+use Rattle.selection.specs.Selection.{changing}
+use borrow.Author.Needs.{needs}
+use Rattle.selection.proofs.change_priority.Statement.{statement}
+use Rattle.selection.proofs.change_priority.Tie as tie
+
+returns : tie.Need-returns
+unfolding changing
+returns c = rw (ne-eqb _ _ (c .if1 .taken))
+
+returns-2 : tie.Need-returns-2
+unfolding changing
+returns-2 c = rw (eq-eqb _ _ (c .before .if1 .left), c .if2 .taken)
+
+read-requires : tie.Need-read-requires
+read-requires c κs = search needs
+
+same-length : tie.Need-same-length
+same-length c = search needs
+
+returns-3 : tie.Need-returns-3
+unfolding changing
+returns-3 c = rw (eq-eqb _ _ (c .before .before .before .before .before .before .if1 .left), c .before .before .before .before .before .if2 .left, ← c .before .before .before .read .ensures, ne-eqb _ _ (c .before .if3 .taken))
+
+same-length-2 : tie.Need-same-length-2
+same-length-2 c = search needs
+
+returns-4 : tie.Need-returns-4
+unfolding changing
+returns-4 c = rw (eq-eqb _ _ (c .before .before .before .before .before .before .before .before .if1 .left), c .before .before .before .before .before .before .before .if2 .left, ← c .before .before .before .before .before .read .ensures, eq-eqb _ _ (c .before .before .before .if3 .left), lt-ltb _ _ (c .if4 .taken))
+
+with-priority-requires : tie.Need-with-priority-requires
+with-priority-requires c κs = search needs
+
+write-requires : tie.Need-write-requires
+write-requires c κs = search needs
+
+same-length-3 : tie.Need-same-length-3
+same-length-3 c = search needs
+
+returns-5 : tie.Need-returns-5
+unfolding changing
+returns-5 c = rw (eq-eqb _ _ (c .before .before .before .before .before .before .before .before .before .before .before .before .before .if1 .left), c .before .before .before .before .before .before .before .before .before .before .before .before .if2 .left, ← c .before .before .before .before .before .before .before .before .before .before .read .ensures, eq-eqb _ _ (c .before .before .before .before .before .before .before .before .if3 .left), le-ltb _ _ (c .before .before .before .before .before .if4 .left)) (c .before .before .write .ensures ∙ ap (λ (l : ContractList). listWritten (c .before .before .before .before .before .before .before .before .before .before .before .before .before .before .before .args .n) l (c .before .before .before .before .before .before .before .before .before .before .before .before .before .before .before .args .list .now)) (c .before .before .before .with-priority .ensures))
+
+pub change-priority-spec : {M : Type 1} → statement M
+change-priority-spec =
+    tie.close
+    (tie.spec
+    returns
+    returns-2
+    read-requires
+    same-length
+    returns-3
+    same-length-2
+    returns-4
+    with-priority-requires
+    write-requires
+    same-length-3
+    returns-5)

@@ -1,0 +1,194 @@
+// Which contract a gate uses, and the change of a priority.
+ghost use mathlib.Core.Path.{_≡_};
+ghost use Rattle.records.specs.Answer.{Written};
+ghost use Rattle.selection.specs.Eligible.{chosenAt, opens, notBefore, notAfter, dataInForce, inForce, eligible, better};
+ghost use Rattle.selection.specs.Selection.{unselected, choice, selected, partOf, changing};
+use contract::Contract;
+use contract::ContractRead;
+use contract::Data;
+use lists::list;
+use lists::list::ContractList;
+use lists::list::Entry;
+use records::BYTES;
+use records::Refusal;
+
+// The last day that a date can name, and the highest operator.
+const LAST_DAY: u32 = 16383;
+
+const LAST_OPERATOR: u32 = 255;
+
+// The chosen entry's position in the list, from 1, its pointer and its priority; all zero where refused.
+pub struct Selected {
+    pub refusal: Refusal,
+    pub position: u32,
+    pub pointer: u32,
+    pub priority: u32,
+}
+
+impl Selected {
+    const NOBODY: Selected = Selected {
+        refusal: Refusal::NONE,
+        position: 0,
+        pointer: 0,
+        priority: 0,
+    };
+
+    fn refused(refusal: Refusal) -> Selected
+        ensures { λ r. ⌜ r ≡ unselected refusal ⌝ }
+    {
+        Selected {
+            refusal,
+            position: 0,
+            pointer: 0,
+            priority: 0,
+        }
+    }
+
+    fn at(position: u32, entry: Entry) -> Selected
+        ensures { λ r. ⌜ r ≡ chosenAt position entry ⌝ }
+    {
+        Selected {
+            refusal: Refusal::NONE,
+            position,
+            pointer: entry.pointer,
+            priority: entry.priority,
+        }
+    }
+}
+
+// The contract that a gate uses, on a card with n contract records.
+pub fn select(list: &[u8], file: &[u8], n: u32, day: u32, operator: u32) -> Selected
+    ensures { λ r. ⌜ r ≡ selected (now (list .entry)) (now (file .entry)) n day operator ⌝ }
+{
+    if list.len() != BYTES {
+        return Selected::refused(Refusal::WRONG_LENGTH);
+    }
+    if file.len() != BYTES * n as usize {
+        return Selected::refused(Refusal::WRONG_LENGTH);
+    }
+    if (LAST_DAY < day) | (LAST_OPERATOR < operator) {
+        return Selected::refused(Refusal::OUTSIDE_LIMITS);
+    }
+    let read = list::read(list, n);
+    if read.refusal.number != 0 {
+        return Selected::refused(read.refusal);
+    }
+    let best = choose(read.list, file, day, operator);
+    if best.position == 0 {
+        return Selected::refused(Refusal::NONE_ELIGIBLE);
+    }
+    best
+}
+
+// The chosen contract's record, as a part of the lent contract file; an empty part on refusal.
+pub fn part(file: &[u8], selected: Selected) -> &[u8]
+    ensures { λ r. ⌜ now r ≡ partOf (now (file .entry)) selected ⌝ }
+{
+    if selected.refusal.number != 0 {
+        return &file[0..0];
+    }
+    records::part(file, selected.pointer)
+}
+
+fn choose(list: ContractList, file: &[u8], day: u32, operator: u32) -> Selected
+    ensures { λ r. ⌜ r ≡ choice day operator (now (file .entry)) list ⌝ }
+{
+    let mut best = Selected::NOBODY;
+    let mut i = 0;
+    while i < 8 {
+        let entry = list.entries[i];
+        if (i as u32) < list.count {
+            let ok = eligible(entry, file, day, operator);
+            best = better(ok, i as u32 + 1, entry, best);
+        }
+        i += 1;
+    }
+    best
+}
+
+// The choice so far, or the entry at this position where it is eligible and goes before that.
+fn better(ok: bool, position: u32, entry: Entry, best: Selected) -> Selected
+    ensures { λ r. ⌜ r ≡ better ok position entry best ⌝ }
+{
+    if ok & ((best.position == 0) | (entry.priority < best.priority)) {
+        return Selected::at(position, entry);
+    }
+    best
+}
+
+// Records that no entry lists are not looked at.
+fn eligible(entry: Entry, file: &[u8], day: u32, operator: u32) -> bool
+    ensures { λ r. ⌜ r ≡ eligible day operator (now (file .entry)) entry ⌝ }
+{
+    let part = records::part(file, entry.pointer);
+    let ContractRead::Read(contract) = contract::read(part, entry.kind) else {
+        return false;
+    };
+    (entry.priority <= Entry::LAST_USABLE)
+        & opens(operator, entry.key, contract)
+        & in_force(day, contract)
+}
+
+fn opens(operator: u32, key: u32, contract: Contract) -> bool
+    ensures { λ r. ⌜ r ≡ opens operator key contract ⌝ }
+{
+    if key == 0 {
+        return true;
+    }
+    if key <= 14 {
+        return key == operator;
+    }
+    (key == 15) & (15 <= operator) & (contract.bitmap % 2 == 1) & (contract.provider == operator)
+}
+
+fn not_before(day: u32, start: u32) -> bool
+    ensures { λ r. ⌜ r ≡ notBefore day start ⌝ }
+{
+    (start == 0) | (start <= day)
+}
+
+fn not_after(day: u32, end: u32) -> bool
+    ensures { λ r. ⌜ r ≡ notAfter day end ⌝ }
+{
+    (end == 0) | (day <= end)
+}
+
+fn in_force(day: u32, contract: Contract) -> bool
+    ensures { λ r. ⌜ r ≡ inForce day contract ⌝ }
+{
+    let data = contract.data;
+    not_before(day, contract.start_date)
+        & not_after(day, contract.end_date)
+        & data_in_force(day, data)
+}
+
+fn data_in_force(day: u32, data: Data) -> bool
+    ensures { λ r. ⌜ r ≡ dataInForce day «data» ⌝ }
+{
+    match data {
+        Data::Nothing => true,
+        Data::Carnet(_) => true,
+        Data::Urban(d) => not_before(day, d.start_date) & not_after(day, d.end_date),
+    }
+}
+
+// Gives the entry at a position another priority: only its four bits of the lent list record change.
+pub fn change_priority(list: &mut [u8], n: u32, position: u32, code: u32) -> Refusal
+    ensures { λ r. ⌜ record { answer = r; bytes = now (list .exit) } ≡ changing (now (list .entry)) n position code ⌝ }
+{
+    if list.len() != BYTES {
+        return Refusal::WRONG_LENGTH;
+    }
+    if (position == 0) | (code == Entry::UNDEFINED) | (15 < code) {
+        return Refusal::OUTSIDE_LIMITS;
+    }
+    let read = list::read(list, n);
+    if read.refusal.number != 0 {
+        return read.refusal;
+    }
+    let old = read.list;
+    if old.count < position {
+        return Refusal::OUTSIDE_LIMITS;
+    }
+    list::write(list, n, old.with_priority(position, code))
+}
