@@ -136,7 +136,7 @@ agrees-read kind bytes c there = go (eqb (length bytes) 29) (read (tableOf kind)
     go false o h = absurd (apart (refusal 1 0) c h)
 
 -- A contract that agrees is written by its table; no other is.
-write-known : (kind : ℕ) (c : Contract) (before : List ℕ) → known kind ≡ true → agrees kind c ≡ true
+pub write-known : (kind : ℕ) (c : Contract) (before : List ℕ) → known kind ≡ true → agrees kind c ≡ true
     → contractWritten kind c before ≡ writeRecord (tableOf kind) (numbersOf kind c) before
 unfolding writeRecord
 write-known kind c before there agree = rw (there, agree) (go (eqb (length before) 29))
@@ -156,7 +156,7 @@ not-disagreed c before after = go (write head 232 (headNumbers c)) refl
     go (done bs end) e h = let z : _≡_ {A = ℕ} 7 0 = ap (λ (w : Written). w .answer .number) h in omega arith
     go (refused n at i) e h = write-refused head 232 (headNumbers c) e (ap (λ (w : Written). w .answer .number) h)
 
-known-written : (kind : ℕ) (c : Contract) (before after : List ℕ) → contractWritten kind c before ≡ accepted after
+pub known-written : (kind : ℕ) (c : Contract) (before after : List ℕ) → contractWritten kind c before ≡ accepted after
     → (known kind ≡ true) × (agrees kind c ≡ true)
 known-written kind c before after = go (eqb (length before) 29) (known kind) (agrees kind c)
   where

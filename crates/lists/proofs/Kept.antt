@@ -94,6 +94,25 @@ list-was-read n bytes l = go (eqb (length bytes) 29) refl (outside n) refl (read
     go true w true i o r h = absurd (let eleven : _≡_ {A = ℕ} 11 0 = apart _ h in omega arith)
     go false w out i o r h = absurd (let one : _≡_ {A = ℕ} 1 0 = apart _ h in omega arith)
 
+-- A reading without a refusal gave a list.
+pub list-got : (n : ℕ) (bytes : List ℕ) → listRead n bytes .refusal .number ≡ 0 → listRead n bytes ≡ gotList (listRead n bytes .list)
+unfolding readList
+list-got n bytes = go (eqb (length bytes) 29) (outside n) (read (contractList n) (spread 8 bytes)) refl
+  where
+    Got : ListRead → Type 0
+    Got r = r .refusal .number ≡ 0 → r ≡ gotList (r .list)
+
+    kept : (t : Bool) (vals : List ℕ) (end k : ℕ) → Got (answered (λ xs. gotList (listOf xs)) noList (pick t (done vals end) (refused 6 k 0)))
+    kept true vals end k z = refl
+    kept false vals end k z = absurd (omega arith)
+
+    go : (b out : Bool) (o : Outcome (List ℕ)) → read (contractList n) (spread 8 bytes) ≡ o
+        → Got (pick b (pick out (noList (refusal 11 0)) (answered (λ xs. gotList (listOf xs)) noList (andThen o (λ vals end. obeying (listFault n vals) vals end)))) (noList (refusal 1 0)))
+    go true false (done vals end) r z = kept (eqb (listFault n vals) 0) vals end (listFault n vals) z
+    go true false (refused m p j) r z = absurd (read-refused (contractList n) (spread 8 bytes) r z)
+    go true true o r z = absurd (omega arith)
+    go false out o r z = absurd (omega arith)
+
 -- Its count is at most n.
 pub count-most : (n : ℕ) (bs : List Bool) {vals : List ℕ} {end : ℕ} → read (contractList n) bs ≡ done vals end → getD vals 0 0 ≤ n
 unfolding contractList

@@ -1,0 +1,222 @@
+-- From each way out of loading's code to what loading means.
+use Prim.Native.Nat.{ℕ, suc, _-_, _*_, _/_, _%_, _^_, _≤_, _<_}
+use mathlib.Core.Bool.{Bool, true, false, not, _&&_, _||_, true≢false}
+use mathlib.Core.List.{List, [], _∷_, map, List·Memᴰ, List·Memᴰ·head, List·Memᴰ·tail}
+use mathlib.Core.Path.{_≡_, refl, sym, ap, _∙_}
+use mathlib.Core.Logic.{_⊎_, ⊎-elim}
+use native.Mathlib.Omega.{arith}
+use lib.Dec.{eqb, leb}
+use lib.ListN.{length, getD, drop, length-map, length-drop, replicate}
+use lib.Seq.{length-take-le}
+use borrow.Author.Tests.{eq-eqb, ne-eqb, eqb-true, eqb-false, leb-true, not-true}
+use Rattle.rows.specs.Row.{Row, pick}
+use Rattle.rows.specs.Walk.{Outcome, done, refused, write}
+use Rattle.rows.proofs.RoundTrip.{write-refused}
+use Rattle.records.specs.Answer.{Written, refusal, accepted, denied, written, writeRecord}
+use Rattle.records.specs.Order.{Attempt, got, stopped, needs, recordFrom}
+use Rattle.records.specs.declared.Refusal.{Refusal}
+use Rattle.lists.specs.List.{gotList, listRead}
+use Rattle.lists.specs.Rules.{among}
+use Rattle.lists.specs.Entries.{counted, listing, without}
+use Rattle.lists.specs.declared.list.Entry.{Entry}
+use Rattle.lists.specs.declared.list.ContractList.{ContractList}
+use Rattle.lists.specs.declared.list.ListRead.{ListRead}
+use Rattle.lists.proofs.Entries.{appended-listing, length-without, length-counted}
+use Rattle.lists.proofs.Kept.{Kept, list-kept, list-got, room-left}
+use Rattle.contract.specs.Contract.{contractRead, contractWritten, numbersOf, tableOf}
+use Rattle.contract.specs.declared.Contract.{Contract}
+use Rattle.contract.specs.declared.ContractRead.the-variants.{Read, Refused}
+use Rattle.contract.proofs.Laws.{contract-read-write, known-written, write-known}
+use Rattle.loading.specs.Blocking.{some}
+use Rattle.loading.specs.Place.{free, place, afterwards}
+use Rattle.loading.specs.Loading.{Lent, lengths, lengthsOf, entryFits, limits, unread, loaded, newEntry, placed, blocking, placing, finding, settled, loading}
+use Rattle.loading.specs.Marks.{marked, refusalOf, Marking}
+use Rattle.loading.specs.Store.{renewed, stored}
+use Rattle.loading.specs.declared.Order.{Order}
+use Rattle.loading.proofs.Placing.{Named, placed-free-or-erasable, place-marked}
+use Rattle.loading.proofs.Marks.{told-blocking}
+
+-- What all of some tests tell of one.
+of-six : (a b c d e f : Bool) → (a && b && c && d && e && f) ≡ true → (b ≡ true) × (e ≡ true) × (f ≡ true)
+of-six true true true true true true h = (refl, refl, refl)
+of-six true true true true true false h = absurd (true≢false (sym h))
+of-six true true true true false f h = absurd (true≢false (sym h))
+of-six true true true false e f h = absurd (true≢false (sym h))
+of-six true true false d e f h = absurd (true≢false (sym h))
+of-six true false c d e f h = absurd (true≢false (sym h))
+of-six false b c d e f h = absurd (true≢false (sym h))
+
+of-ten : (a b c d e f g h i j : Bool) → (a && b && c && d && e && f && g && h && i && j) ≡ true → (b ≡ true) × (d ≡ true)
+of-ten true true true true e f g h i j all = (refl, refl)
+of-ten true true true false e f g h i j all = absurd (true≢false (sym all))
+of-ten true true false d e f g h i j all = absurd (true≢false (sym all))
+of-ten true false c d e f g h i j all = absurd (true≢false (sym all))
+of-ten false b c d e f g h i j all = absurd (true≢false (sym all))
+
+-- What a record becomes when it is written depends on nothing of it but its length.
+written-anywhere : (rows : List Row) (vals before before' after : List ℕ) → length before ≡ length before'
+    → writeRecord rows vals before ≡ accepted after → writeRecord rows vals before' ≡ accepted after
+unfolding writeRecord
+written-anywhere rows vals before before' after same = rw (← same) (go (eqb (length before) 29) (write rows 232 vals) refl)
+  where
+    go : (t : Bool) (o : Outcome (List Bool)) → write rows 232 vals ≡ o → pick t (written before o) (denied 1 0 before) ≡ accepted after
+        → pick t (written before' o) (denied 1 0 before') ≡ accepted after
+    go true (done bs end) e h = rw (← same) h
+    go true (refused m p i) e h = absurd (write-refused rows 232 vals e (ap (λ (w : Written). w .answer .number) h))
+    go false o e h = absurd (let one : _≡_ {A = ℕ} 1 0 = ap (λ (w : Written). w .answer .number) h in omega arith)
+
+-- A contract that was read is written to any record as the bytes that it was read from.
+contract-anywhere : (kind : ℕ) (new before : List ℕ) (c : Contract) → ((i : ℕ) → getD new i 0 < 2 ^ 8) → contractRead kind new ≡ Read c
+    → length new ≡ length before → contractWritten kind c before ≡ accepted new
+contract-anywhere kind new before c small h same =
+    let at-home = contract-read-write kind new c small h in
+    let (there, agree) = known-written kind c new new at-home in
+    write-known kind c before there agree
+    ∙ written-anywhere (tableOf kind) (numbersOf kind c) new before new same (sym (write-known kind c new there agree) ∙ at-home)
+
+-- An entry that has the pointer leaves.
+leaves : (e : Entry) (es : List Entry) (p : ℕ) → List·Memᴰ e es → e .pointer ≡ p → length (without p es) < length es
+leaves e (f ∷ es) p (List·Memᴰ·head here) own =
+    let same : f .pointer ≡ p = ap (λ (x : Entry). x .pointer) (sym here) ∙ own in
+    rw (eq-eqb _ _ same) (omega (arith, length-without p es))
+leaves e (f ∷ es) p (List·Memᴰ·tail there) own = go (eqb (f .pointer) p) (leaves e es p there own)
+  where
+    go : (t : Bool) → length (without p es) < length es → length (pick t (without p es) (f ∷ without p es)) < suc (length es)
+    go true h = omega arith
+    go false h = omega arith
+
+-- A free pointer is none of the entries'.
+free-among : (es : List Entry) (p : ℕ) → free es p ≡ true → among p (map (λ (e : Entry). e .pointer) es) ≡ false
+free-among es p h = sym (same es p) ∙ not-true _ h
+  where
+    same : (es : List Entry) (p : ℕ) → some (λ e. eqb (e .pointer) p) es ≡ among p (map (λ (e : Entry). e .pointer) es)
+    same [] p = refl
+    same (e ∷ es) p = ap (λ (t : Bool). eqb (e .pointer) p || t) (same es p)
+
+-- Where the rule names a pointer, there is room for its entry.
+room-for : (n : ℕ) (l : ContractList) (blocked : ℕ → Bool) (p : ℕ) → Kept n l → Named blocked n (counted l) p → (p ≡ 0 → ⊥)
+    → length (without p (counted l)) < 8
+room-for n l blocked p kept named other =
+    let few : length (counted l) ≤ 8 = omega (arith, length-counted l (kept .eight)) in
+    ⊎-elim
+    (λ f.
+    let left : length pointers < n = room-left n p pointers (kept .apart) (omega arith) (named .most) (free-among (counted l) p f) in
+    let all : length pointers ≡ length (counted l) = length-map (counted l) (λ (e : Entry). e .pointer) in
+    omega (arith, left, all, length-without p (counted l), kept .room .1))
+    (λ e. omega (arith, leaves (e .entry) (counted l) p (e .listed) (e .pointer), few))
+    (named .how other)
+  where
+    pointers : List ℕ
+    pointers = map (λ (e : Entry). e .pointer) (counted l)
+
+-- The limits that concern the card.
+pub record Card (o : Order) (list file : List ℕ) (lent : Lent) : Type 0 where
+  pub lengths-agree : lengths o (lengthsOf list file lent) ≡ true
+  pub in-limits : limits o (length (lent .journal) / 29) ≡ true
+  pub most : o .n ≤ 8
+  pub counters : o .c ≤ o .n
+  pub file-long : length file ≡ 29 * o .n
+  pub records-long : length (lent .records) ≡ 29 * o .s
+  pub new-long : length (lent .new) ≡ 29
+
+module _ (o : Order) (list file : List ℕ) (lent : Lent) where
+  -- Where nothing is refused unread, lengths and limits agree.
+  pub unread-none : unread o (lengthsOf list file lent) ≡ 0 → Card o list file lent
+  unread-none = go (lengths o (lengthsOf list file lent)) refl (limits o (length (lent .journal) / 29)) refl
+    where
+      go : (a : Bool) → lengths o (lengthsOf list file lent) ≡ a → (b : Bool) → limits o (length (lent .journal) / 29) ≡ b
+          → _≡_ {A = ℕ} (pick a (pick b 0 11) 1) 0 → Card o list file lent
+      go true l true k h =
+          let (file-ok, records-ok, new-ok) = of-six (eqb (length list) 29) (eqb (length file) (29 * o .n)) (eqb (length (lent .special)) 29) (eqb (length (lent .journal) % 29) 0) (eqb (length (lent .records)) (29 * o .s)) (eqb (length (lent .new)) 29) l in
+          let (high, within) = of-ten (leb 1 (o .n)) (leb (o .n) 8) (leb (o .c) 4) (leb (o .c) (o .n)) (leb (o .s) 4) (leb (length (lent .journal) / 29) 15) (leb (o .day) 16383) (leb (o .minute) 1439) (leb (o .hours) 255) (entryFits o) k in
+          record {
+            lengths-agree = l;
+            in-limits = k;
+            most = leb-true _ _ high;
+            counters = leb-true _ _ within;
+            file-long = eqb-true _ _ file-ok;
+            records-long = eqb-true _ _ records-ok;
+            new-long = eqb-true _ _ new-ok;
+          }
+      go true l false k h = absurd (omega arith)
+      go false l b k h = absurd (omega arith)
+
+  pub refused-unread : (number : ℕ) → number ≡ unread o (lengthsOf list file lent) → (number ≡ 0 → ⊥)
+      → loaded (refusal number 0) 0 list file ≡ loading o list file lent
+  unfolding loading finding
+  refused-unread number same other = go (lengths o (lengthsOf list file lent)) (limits o (length (lent .journal) / 29)) same
+    where
+      go : (a b : Bool) → number ≡ pick a (pick b 0 11) 1
+          → loaded (refusal number 0) 0 list file ≡ settled o list file (lent .new) (needs a 1 (needs b 11 (placing o list lent)))
+      go true true e = absurd (other e)
+      go true false e = rw e
+      go false b e = rw e
+
+  module _ (card : Card o list file lent) where
+    -- The pointer's place is in the contract file.
+    pub place-inside : (blocked : ℕ → Bool) (es : List Entry) (p : ℕ) → p ≡ place blocked (o .n) (o .c) (o .counter) es → 29 * p ≤ length file
+    place-inside blocked es p named =
+        let most : p ≤ o .n = rw (← named) at (placed-free-or-erasable blocked (o .n) (o .c) (o .counter) es (card .counters) .most) in
+        rw (card .file-long) (omega arith)
+
+    -- Then all is read.
+    read-all : loading o list file lent ≡ settled o list file (lent .new) (placing o list lent)
+    unfolding loading finding
+    read-all = rw (card .lengths-agree, card .in-limits)
+
+    module _ (r : ListRead) (same : r ≡ listRead (o .n) list) where
+      pub refused-list : (r .refusal .number ≡ 0 → ⊥) → loaded (r .refusal) 0 list file ≡ loading o list file lent
+      unfolding placing
+      refused-list other = rw (read-all, ← same, ne-eqb _ _ other)
+
+      module _ (reads : r .refusal .number ≡ 0) where
+        refused-attempt : (x : Refusal) → blocking o (lent .special) (lent .journal) (lent .records) ≡ stopped x → loaded x 0 list file ≡ loading o list file lent
+        unfolding placing
+        refused-attempt x e = rw (read-all, ← same, eq-eqb _ _ reads, e)
+
+        module _ {marks : List Bool} {x : Refusal} (m : Marking (blocking o (lent .special) (lent .journal) (lent .records)) (λ b. b) (replicate 9 false) marks x) where
+          pub refused-events : (x .number ≡ 0 → ⊥) → loaded x 0 list file ≡ loading o list file lent
+          refused-events other = go (blocking o (lent .special) (lent .journal) (lent .records)) refl (m .answer)
+            where
+              go : (t : Attempt (ℕ → Bool)) → blocking o (lent .special) (lent .journal) (lent .records) ≡ t → x ≡ refusalOf t → loaded x 0 list file ≡ loading o list file lent
+              go (got b) e h = absurd (other (ap (λ (r : Refusal). r .number) h))
+              go (stopped y) e h = refused-attempt x (e ∙ ap stopped (sym h))
+
+          module _ (quiet : x .number ≡ 0) where
+            pub refused-contract : (y : Refusal) → contractRead (o .kind) (lent .new) ≡ Refused y → loaded y 0 list file ≡ loading o list file lent
+            unfolding placing
+            refused-contract y e =
+                let (blocked, events, placed) = place-marked (told-blocking o (lent .special) (lent .journal) (lent .records)) m quiet in
+                rw (read-all, ← same, eq-eqb _ _ reads, events, e)
+
+            named-place : (c : Contract) (blocked : ℕ → Bool) (p : ℕ) → blocking o (lent .special) (lent .journal) (lent .records) ≡ got blocked
+                → contractRead (o .kind) (lent .new) ≡ Read c → ((i : ℕ) → getD (lent .new) i 0 < 2 ^ 8)
+                → p ≡ place blocked (o .n) (o .c) (o .counter) (counted (r .list))
+                → stored o list file (r .list) c p ≡ loading o list file lent
+            unfolding placing stored
+            named-place c blocked p events e small named = rw (read-all, ← same, eq-eqb _ _ reads, events, e, ← named) (go (eqb p 0) refl)
+              where
+                go : (t : Bool) → eqb p 0 ≡ t
+                    → stored o list file (r .list) c p
+                    ≡ settled o list file (lent .new) (pick (not t) (got (record { entries = counted (r .list); pointer = p })) (stopped (refusal 9 0)))
+                go true z = rw z
+                go false z =
+                    let other : p ≡ 0 → ⊥ = eqb-false _ _ z in
+                    let read : listRead (o .n) list ≡ gotList (r .list) = sym same ∙ rw (← same) at (list-got (o .n) list (ap (λ (x : ListRead). x .refusal .number) (sym same) ∙ reads)) in
+                    let kept = list-kept (o .n) list (r .list) read in
+                    let names = placed-free-or-erasable blocked (o .n) (o .c) (o .counter) (counted (r .list)) (card .counters) in
+                    let fits : length (without p (counted (r .list))) < 8 = room-for (o .n) (r .list) blocked p kept (rw (← named) at names) other in
+                    let lists : renewed o (r .list) p ≡ listing (afterwards (newEntry o p) (counted (r .list))) = appended-listing (newEntry o p) (without p (counted (r .list))) fits in
+                    let most : p ≤ o .n = rw (← named) at (names .most) in
+                    let files-long : length file ≡ 29 * o .n = card .file-long in
+                    let inside : 29 ≤ length (drop (29 * (p - 1)) file) = simp length-drop (omega arith) in
+                    let long : length (lent .new) ≡ length (recordFrom file (p - 1)) = card .new-long ∙ sym (length-take-le 29 (drop (29 * (p - 1)) file) inside) in
+                    let files : contractWritten (o .kind) c (recordFrom file (p - 1)) ≡ accepted (lent .new) = contract-anywhere (o .kind) (lent .new) (recordFrom file (p - 1)) c small e long in
+                    rw (z, lists, files)
+
+            pub loads : (c : Contract) (p : ℕ) → contractRead (o .kind) (lent .new) ≡ Read c → ((i : ℕ) → getD (lent .new) i 0 < 2 ^ 8)
+                → p ≡ place (marked marks) (o .n) (o .c) (o .counter) (counted (r .list))
+                → stored o list file (r .list) c p ≡ loading o list file lent
+            loads c p e small named =
+                let (blocked, events, same-place) = place-marked (told-blocking o (lent .special) (lent .journal) (lent .records)) m quiet in
+                named-place c blocked p events e small (named ∙ same-place (o .n) (o .c) (o .counter) (counted (r .list)) (card .most) (card .counters))

@@ -1,0 +1,235 @@
+-- One more turn of the loops that read events and mark pointers, and from their marks to those of the blocked pointers.
+use Prim.Native.Nat.{ℕ, zero, suc, _+_, _-_, _*_, _/_, _≤_, _<_}
+use mathlib.Core.Path.{_≡_, refl, sym, ap, subst, _∙_}
+use mathlib.Core.List.{List, [], _∷_}
+use mathlib.Core.Bool.{Bool, true, false, _&&_, _||_, or-false, or-true, or-assoc}
+use native.Mathlib.Omega.{arith}
+use native.Mathlib.Numerals.{add-one}
+use native.Mathlib.Nat.{sub-zero}
+use lib.Dec.{eqb}
+use lib.ListN.{length, set, take, drop, length-set}
+use lib.Seq.{getD-set-same, getD-set-other}
+use borrow.Author.Tests.{eqb-true, eqb-false, eq-eqb, ne-eqb}
+use Rattle.bits.specs.Bits.{spread}
+use Rattle.rows.specs.Row.{pick}
+use Rattle.rows.specs.Walk.{Outcome, done, refused, read}
+use Rattle.rows.specs.table.Event.{event}
+use Rattle.records.specs.Answer.{refusal, answered, readRecord}
+use Rattle.records.specs.Event.{eventOf, eventRead}
+use Rattle.records.specs.Order.{Attempt, got, stopped, next, recordFrom, attempted, events}
+use Rattle.records.specs.declared.Refusal.{Refusal}
+use Rattle.records.specs.declared.event.Event.{Event}
+use Rattle.records.specs.declared.event.EventRead.{EventRead}
+use Rattle.records.specs.declared.event.EventRead.the-variants.{Read, Refused}
+use Rattle.records.proofs.Inverse.{read-refused}
+use Rattle.lists.specs.Special.{specialRead}
+use Rattle.lists.specs.declared.special.SpecialRead.{SpecialRead}
+use Rattle.loading.specs.Blocking.{some, moment, blocks, namedBySpecial, blocked}
+use Rattle.loading.specs.Loading.{specials, blocking}
+use Rattle.loading.specs.declared.Order.{Order}
+use Rattle.loading.specs.Marks.{marked, Added, refusalOf, Marking}
+
+apart : {A : Type 0} {r : Refusal} {a : A} → stopped r ≡ got a → ⊥
+apart e = let z : _≡_ {A = ℕ} 0 1 = cc in omega arith
+
+-- A mark that is set.
+pub added-one : (marks : List Bool) (pointer : ℕ) (blocks : Bool) → blocks ≡ true → pointer < length marks
+    → Added (λ p. eqb pointer p && blocks) marks (set marks pointer true)
+added-one marks pointer blocks on h =
+    record { long = length-set marks pointer true; each = λ p few. go p (eqb pointer p) refl }
+  where
+    go : (p : ℕ) (b : Bool) → eqb pointer p ≡ b → marked (set marks pointer true) p ≡ marked marks p || (b && blocks)
+    go p true e =
+        let same : pointer ≡ p = eqb-true pointer p e in
+        rw (← same, getD-set-same marks pointer true false h, on, or-true (marked marks pointer))
+    go p false e =
+        rw (getD-set-other marks pointer p true false (λ same. eqb-false pointer p e (sym same)), or-false (marked marks p))
+
+-- None is set: there is no such mark, or the event does not block.
+pub added-far : (marks : List Bool) (pointer : ℕ) (blocks : Bool) → length marks ≡ 9 → length marks ≤ pointer
+    → Added (λ p. eqb pointer p && blocks) marks marks
+added-far marks pointer blocks long far = record { long = refl; each = λ p few. go p few }
+  where
+    go : (p : ℕ) → p ≤ 8 → marked marks p ≡ marked marks p || (eqb pointer p && blocks)
+    go p few = rw (ne-eqb pointer p (λ same. omega arith), or-false (marked marks p))
+
+pub added-none : (marks : List Bool) (pointer : ℕ) (blocks : Bool) → blocks ≡ false
+    → Added (λ p. eqb pointer p && blocks) marks marks
+added-none marks pointer blocks off = record { long = refl; each = λ p few. go (marked marks p) (eqb pointer p) }
+  where
+    go : (m b : Bool) → m ≡ m || (b && blocks)
+    go true b = refl
+    go false true = sym off
+    go false false = refl
+
+-- Whether the event blocks, in other words.
+pub added-as : (pointer : ℕ) {b blocks : Bool} {marks after : List Bool} → b ≡ blocks → Added (λ p. eqb pointer p && b) marks after
+    → Added (λ p. eqb pointer p && blocks) marks after
+added-as pointer {b} {blocks} {marks} {after} e added = subst (λ (t : Bool). Added (λ p. eqb pointer p && t) marks after) e added
+
+module _ (named : ℕ → List Event → ℕ → Bool) (names : ℕ → Event → ℕ → Bool)
+    (nil : (k p : ℕ) → named k [] p ≡ false)
+    (cons : (k : ℕ) (e : Event) (es : List Event) (p : ℕ) → named k (e ∷ es) p ≡ names k e p || named (suc k) es p)
+    (n : ℕ) (file : List ℕ) (start : List Bool) where
+  -- The first i of n events are read and their marks made: marking the rest is marking all.
+  pub record Passed (i : ℕ) (marks : List Bool) : Type 0 where
+    pub few : i ≤ n
+    pub long : length marks ≡ length start
+    pub all : (after : List Bool) (r : Refusal) → Marking (events (n - i) file i) (named i) marks after r
+        → Marking (events n file 0) (named 0) start after r
+
+  pub passed-none : Passed 0 start
+  passed-none = record { few = omega arith; long = refl; all = λ after r m. rw (sub-zero n) at m }
+
+  -- An event more.
+  event-more : (i m : ℕ) (marks more after : List Bool) (r : Refusal) (e : Event) → eventRead (recordFrom file i) ≡ Read e → Added (names i e) marks more
+      → Marking (events m file (suc i)) (named (suc i)) more after r → Marking (events (suc m) file i) (named i) marks after r
+  event-more i m marks more after r e one added = rw one (go (events m file (suc i)))
+    where
+      go : (rest : Attempt (List Event)) → Marking rest (named (suc i)) more after r
+          → Marking (next rest (λ es. got (e ∷ es))) (named i) marks after r
+      go (got es) k =
+          record {
+            answer = k .answer;
+            long = k .long ∙ added .long;
+            marks = λ a same. let these : a ≡ e ∷ es = cc in rw these record {
+              long = k .long ∙ added .long;
+              each = λ p few. k .marks es refl .each p few ∙ rw (added .each p few, cons i e es p, or-assoc (marked marks p) (names i e p) (named (suc i) es p));
+            };
+          }
+      go (stopped s) k =
+          record {
+            answer = k .answer;
+            long = k .long ∙ added .long;
+            marks = λ a same. absurd (apart same);
+          }
+
+  pub passed-more : {i : ℕ} {marks : List Bool} (more : List Bool) (e : Event) → Passed i marks → i < n → eventRead (recordFrom file i) ≡ Read e
+      → Added (names i e) marks more → Passed (i + 1) more
+  passed-more {i} {marks} more e so h one added =
+      let on : n - i ≡ suc (n - suc i) = omega arith in
+      record {
+        few = omega arith;
+        long = added .long ∙ so .long;
+        all = λ after r m. so .all after r (rw on (event-more i (n - suc i) marks more after r e one added (rw (add-one i) at m)));
+      }
+
+  -- An event that is refused.
+  pub passed-refused : {i : ℕ} {marks : List Bool} (r : Refusal) → Passed i marks → i < n → eventRead (recordFrom file i) ≡ Refused r
+      → Marking (events n file 0) (named 0) start marks r
+  passed-refused {i} {marks} r so h one =
+      let on : n - i ≡ suc (n - suc i) = omega arith in
+      so .all marks r (rw (on, one) record { answer = refl; long = refl; marks = λ a same. absurd (apart same) })
+
+  -- None is left.
+  pub passed-all : {i : ℕ} {marks : List Bool} → Passed i marks → n ≤ i → Marking (events n file 0) (named 0) start marks (refusal 0 0)
+  passed-all {i} {marks} so h =
+      let none : n - i ≡ 0 = omega arith in
+      so .all marks (refusal 0 0) (rw none record {
+        answer = refl;
+        long = refl;
+        marks = λ a same. let these : a ≡ [] = cc in rw these record { long = refl; each = λ p few. rw (nil i p, or-false (marked marks p)) };
+      })
+
+-- What was read of a part of a file is its record.
+pub part-read : (file : List ℕ) (i : ℕ) {r x : EventRead} → r ≡ eventRead (take (29 * i + 29 - 29 * i) (drop (29 * i) file)) → r ≡ x → eventRead (recordFrom file i) ≡ x
+part-read file i e f = let size : 29 * i + 29 - 29 * i ≡ 29 = omega arith in sym (rw size at e) ∙ f
+
+-- Every refusal has a number that is not zero, so that the number tells whether there was one.
+abbrev pub Told : {A : Type 0} → Attempt A → Type 0
+Told t = (r : Refusal) → t ≡ stopped r → r .number ≡ 0 → ⊥
+
+told-got : {A : Type 0} (a : A) → Told (got a)
+told-got a r e z = apart (sym e)
+
+told-next : {A B : Type 0} (t : Attempt A) (more : A → Attempt B) → Told t → ((a : A) → Told (more a)) → Told (next t more)
+told-next (got a) more first then = then a
+told-next (stopped s) more first then = λ r e z. let same : s ≡ r = cc in first s refl (rw same z)
+
+pub told-none : {A : Type 0} (t : Attempt A) → Told t → refusalOf t .number ≡ 0 → (a : A) × (t ≡ got a)
+told-none (got a) told z = (a, refl)
+told-none (stopped r) told z = absurd (told r refl z)
+
+told-event : (bytes : List ℕ) → Told (attempted (eventRead bytes))
+unfolding readRecord
+told-event bytes r h z = go (eqb (length bytes) 29) (read event (spread 8 bytes)) refl h
+  where
+    go : (b : Bool) (o : Outcome (List ℕ)) → read event (spread 8 bytes) ≡ o
+        → attempted (pick b (answered (λ vals. Read (eventOf vals)) Refused o) (Refused (refusal 1 0))) ≡ stopped r → ⊥
+    go true (done vals end) e f = apart (sym f)
+    go true (refused n at i) e f = let same : refusal n at ≡ r = cc in read-refused event (spread 8 bytes) e (ap (λ (s : Refusal). s .number) same ∙ z)
+    go false o e f = let same : refusal 1 0 ≡ r = cc in let one : 1 ≡ r .number = ap (λ (s : Refusal). s .number) same in omega arith
+
+told-events : (n : ℕ) (file : List ℕ) (i : ℕ) → Told (events n file i)
+told-events zero file i = told-got []
+told-events (suc n) file i =
+    told-next (attempted (eventRead (recordFrom file i))) _ (told-event (recordFrom file i))
+    (λ e. told-next (events n file (suc i)) _ (told-events n file (suc i)) (λ es. told-got (e ∷ es)))
+
+told-specials : (r : SpecialRead) → Told (specials r)
+told-specials r x h z = go (eqb (r .refusal .number) 0) refl h
+  where
+    go : (b : Bool) → eqb (r .refusal .number) 0 ≡ b → pick b (got (take (r .list .count) (r .list .entries))) (stopped (r .refusal)) ≡ stopped x → ⊥
+    go true e f = apart (sym f)
+    go false e f = let same : r .refusal ≡ x = cc in eqb-false (r .refusal .number) 0 e (rw same z)
+
+pub told-blocking : (o : Order) (special journal records : List ℕ) → Told (blocking o special journal records)
+unfolding blocking
+told-blocking o special journal records =
+    told-next (specials (specialRead (o .s) special)) _ (told-specials (specialRead (o .s) special))
+    (λ entries. told-next (events (length journal / 29) journal 0) _ (told-events (length journal / 29) journal 0)
+    (λ es. told-next (events (o .s) records 0) _ (told-events (o .s) records 0) (λ fs. told-got _)))
+
+-- The time, in other words.
+pub at-time : (attempt : Attempt (List Event)) {time moment : ℕ} (hours : ℕ) {before after : List Bool} {r : Refusal} → time ≡ moment
+    → Marking attempt (λ es p. some (blocks time hours p) es) before after r
+    → Marking attempt (λ es p. some (blocks moment hours p) es) before after r
+at-time attempt {time} {moment} hours {before} {after} {r} e m =
+    subst (λ (t : ℕ). Marking attempt (λ es p. some (blocks t hours p) es) before after r) e m
+
+module _ (o : Order) (special journal records : List ℕ) {r : SpecialRead} (read : r ≡ specialRead (o .s) special) {before : List Bool} where
+  -- The special event list is refused.
+  pub blocking-unlisted : (r .refusal .number ≡ 0 → ⊥) → Marking (blocking o special journal records) (λ b. b) before before (r .refusal)
+  unfolding blocking
+  blocking-unlisted bad =
+      rw (← read, ne-eqb (r .refusal .number) 0 bad) record { answer = refl; long = refl; marks = λ b same. absurd (apart same) }
+
+  module _ (good : r .refusal .number ≡ 0) {mid : List Bool} {s : Refusal}
+      (past : Marking (events (length journal / 29) journal 0) (λ es p. some (blocks (moment (o .day) (o .minute)) (o .hours) p) es) before mid s) where
+    -- An event of the journal is refused.
+    pub blocking-unread : (s .number ≡ 0 → ⊥) → Marking (blocking o special journal records) (λ b. b) before mid s
+    unfolding blocking
+    blocking-unread bad = rw (← read, eq-eqb (r .refusal .number) 0 good) (go _ (events (length journal / 29) journal 0) past)
+      where
+        go : {test : List Event → ℕ → Bool} (more : List Event → Attempt (ℕ → Bool)) (j : Attempt (List Event)) → Marking j test before mid s
+            → Marking (next j more) (λ b. b) before mid s
+        go more (got es) k = absurd (bad (ap (λ (t : Refusal). t .number) (k .answer)))
+        go more (stopped t) k = record { answer = k .answer; long = k .long; marks = λ b same. absurd (apart same) }
+
+    -- The journal is read, and the special event records too or not.
+    pub blocking-read : {after : List Bool} {t : Refusal} → s .number ≡ 0 → length records ≡ 29 * o .s
+        → Marking (events (length records / 29) records 0) (λ es p. namedBySpecial (take (r .list .count) (r .list .entries)) p 1 es) mid after t
+        → Marking (blocking o special journal records) (λ b. b) before after t
+    unfolding blocking
+    blocking-read {after} {t} fine sized last =
+        let n : length records / 29 ≡ o .s = omega arith in
+        rw (← read, eq-eqb (r .refusal .number) 0 good)
+        (go (events (length journal / 29) journal 0) (told-events (length journal / 29) journal 0) past (events (o .s) records 0) (rw n at last))
+      where
+        go : (j : Attempt (List Event)) → ((x : Refusal) → j ≡ stopped x → x .number ≡ 0 → ⊥)
+            → Marking j (λ es p. some (blocks (moment (o .day) (o .minute)) (o .hours) p) es) before mid s
+            → (k : Attempt (List Event)) → Marking k (λ es p. namedBySpecial (take (r .list .count) (r .list .entries)) p 1 es) mid after t
+            → Marking (next j (λ es. next k (λ fs. got (blocked (moment (o .day) (o .minute)) (o .hours) es (take (r .list .count) (r .list .entries)) fs)))) (λ b. b) before after t
+        go (stopped x) never first k second = absurd (never x refl (sym (ap (λ (y : Refusal). y .number) (first .answer)) ∙ fine))
+        go (got es) never first (stopped x) second =
+            record { answer = second .answer; long = second .long ∙ first .long; marks = λ b same. absurd (apart same) }
+        go (got es) never first (got fs) second =
+            record {
+              answer = second .answer;
+              long = second .long ∙ first .long;
+              marks = λ b same. let this : b ≡ blocked (moment (o .day) (o .minute)) (o .hours) es (take (r .list .count) (r .list .entries)) fs = cc in
+                  rw this record {
+                    long = second .long ∙ first .long;
+                    each = λ p few. second .marks fs refl .each p few ∙ rw (first .marks es refl .each p few, or-assoc (marked before p) (some (blocks (moment (o .day) (o .minute)) (o .hours) p) es) (namedBySpecial (take (r .list .count) (r .list .entries)) p 1 fs));
+                  };
+            }

@@ -1,0 +1,69 @@
+use Prim.Native.Nat.{_+_, _-_, _≤_}
+use mathlib.Core.Path.{_≡_, sym, _∙_}
+use native.Mathlib.Omega.{arith}
+use native.Mathlib.Nat.{sub-zero, add-zero}
+use borrow.Author.Needs.{needs}
+use Rattle.lists.specs.Entries.{counted}
+use Rattle.loading.specs.Place.{lowestFree}
+use Rattle.loading.proofs.Counted.{lowest-more}
+use Rattle.loading.proofs.place.lowest_free.Statement.{statement}
+use Rattle.loading.proofs.place.lowest_free.Tie as tie
+
+abbrev Inv-loop : tie.InvT-loop
+Inv-loop list n first i₀ i = (i ≤ n) × (lowestFree (counted list) n first ≡ lowestFree (counted list) (n - i) (first + i))
+
+abbrev μ-loop : tie.MeasureT-loop
+μ-loop list n first i₀ i = n - i
+
+loop-holds : tie.Need-loop-holds Inv-loop μ-loop
+loop-holds c = (search needs, rw (sub-zero, add-zero))
+
+add-is-free : tie.Need-add-is-free Inv-loop μ-loop
+add-is-free c = search needs
+
+is-free-requires : tie.Need-is-free-requires Inv-loop μ-loop
+is-free-requires c κs = search needs
+
+add-result : tie.Need-add-result Inv-loop μ-loop
+add-result c = search needs
+
+returns : tie.Need-returns Inv-loop μ-loop
+returns c =
+    let l = c .before .before .before .loop in
+    let a = c .before .before .before .before .args in
+    sym (l .inv .1 ∙ rw (c .if1 .taken) at (lowest-more (counted (a .list)) (a .n) (a .first) (l .i) (c .before .before .loop-test .taken) _ (c .before .is-free .ensures)))
+
+add-i : tie.Need-add-i Inv-loop μ-loop
+add-i c = search needs
+
+loop-less : tie.Need-loop-less Inv-loop μ-loop
+loop-less c = search needs
+
+loop-again : tie.Need-loop-again Inv-loop μ-loop
+loop-again c =
+    let l = c .before .before .before .loop in
+    let a = c .before .before .before .before .args in
+    (search needs, l .inv .1 ∙ rw (c .if1 .left) at (lowest-more (counted (a .list)) (a .n) (a .first) (l .i) (c .before .before .loop-test .taken) _ (c .before .is-free .ensures)))
+
+returns-2 : tie.Need-returns-2 Inv-loop μ-loop
+returns-2 c =
+    let l = c .before .loop in
+    let a = c .before .before .args in
+    let none : a .n - l .i ≡ 0 = omega arith in
+    sym (rw none at (l .inv .1))
+
+pub lowest-free-spec : {M : Type 1} → statement M
+lowest-free-spec =
+    tie.close
+    (tie.spec
+    Inv-loop
+    μ-loop
+    loop-holds
+    add-is-free
+    is-free-requires
+    add-result
+    returns
+    add-i
+    loop-less
+    loop-again
+    returns-2)

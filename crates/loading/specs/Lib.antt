@@ -1,0 +1,5 @@
+pub mod Blocking
+pub mod Place
+pub mod Loading
+pub mod Marks
+pub mod Store

@@ -1,0 +1,211 @@
+// Where a new contract goes on a card, and writing it there.
+mod blocking;
+mod place;
+
+ghost use mathlib.Core.Path.{_≡_};
+ghost use Prim.Native.Nat.{_*_, _≤_};
+ghost use lib.ListN.{length};
+ghost use Rattle.loading.specs.Store.{stored};
+ghost use Rattle.loading.specs.Loading.{Lent, Outcome, lengths, networkFits, entryFits, limits, unread, newEntry, loading};
+use contract::Contract;
+use contract::ContractRead;
+use lists::list;
+use lists::list::ContractList;
+use lists::list::Entry;
+use records::BYTES;
+use records::Refusal;
+
+// The card, the time, and the new contract's entry.
+pub struct Order {
+    // contract records, counter positions, special event records
+    pub n: u32,
+    pub c: u32,
+    pub s: u32,
+    // now, and the hours that a journal event blocks
+    pub day: u32,
+    pub minute: u32,
+    pub hours: u32,
+    // the entry; its network is zero where it has none
+    pub key: u32,
+    pub kind: u32,
+    pub priority: u32,
+    pub has_network: bool,
+    pub network: u32,
+    // whether it needs a counter
+    pub counter: bool,
+}
+
+// The pointer of the new contract, 0 where refused.
+pub struct Loaded {
+    pub refusal: Refusal,
+    pub pointer: u32,
+}
+
+// The lengths of all that is lent.
+struct Lengths {
+    list: usize,
+    file: usize,
+    special: usize,
+    journal: usize,
+    records: usize,
+    new: usize,
+}
+
+impl Order {
+    // The refusal that needs no reading: 1, 11, or 0 for none.
+    fn refused_unread(self, lent: Lengths) -> u32
+        ensures { λ r. ⌜ r ≡ unread self lent ⌝ }
+    {
+        if !self.agrees(lent) {
+            return 1;
+        }
+        if !self.in_limits(lent.journal / BYTES) {
+            return 11;
+        }
+        0
+    }
+
+    fn agrees(self, lent: Lengths) -> bool
+        ensures { λ r. ⌜ r ≡ lengths self lent ⌝ }
+    {
+        (lent.list == BYTES)
+            & (lent.file == BYTES * self.n as usize)
+            & (lent.special == BYTES)
+            & (lent.journal % BYTES == 0)
+            & (lent.records == BYTES * self.s as usize)
+            & (lent.new == BYTES)
+    }
+
+    fn in_limits(self, journal: usize) -> bool
+        ensures { λ r. ⌜ r ≡ limits self journal ⌝ }
+    {
+        (1 <= self.n)
+            & (self.n <= 8)
+            & (self.c <= 4)
+            & (self.c <= self.n)
+            & (self.s <= 4)
+            & (journal <= 15)
+            & (self.day <= 16383)
+            & (self.minute <= 1439)
+            & (self.hours <= 255)
+            & self.entry_in_limits()
+    }
+
+    fn entry_in_limits(self) -> bool
+        ensures { λ r. ⌜ r ≡ entryFits self ⌝ }
+    {
+        let network = if self.has_network {
+            self.network < 16777216
+        } else {
+            self.network == 0
+        };
+        (self.key <= 15)
+            & (self.kind <= 255)
+            & (self.priority <= 15)
+            & (self.priority != Entry::UNDEFINED)
+            & self.network_in_limits()
+    }
+
+    // One that is absent is zero.
+    fn network_in_limits(self) -> bool
+        ensures { λ r. ⌜ r ≡ networkFits self ⌝ }
+    {
+        if self.has_network {
+            return self.network < 16777216;
+        }
+        self.network == 0
+    }
+
+    // The new entry.
+    fn entry(self, pointer: u32) -> Entry
+        ensures { λ r. ⌜ r ≡ newEntry self pointer ⌝ }
+    {
+        if self.has_network {
+            return Entry::with_network(self.network, self.key, self.kind, self.priority, pointer);
+        }
+        Entry::new(self.key, self.kind, self.priority, pointer)
+    }
+}
+
+impl Loaded {
+    fn refused(refusal: Refusal) -> Loaded
+        ensures { λ r. ⌜ r ≡ record { refusal = refusal; pointer = 0 } ⌝ }
+    {
+        Loaded {
+            refusal,
+            pointer: 0,
+        }
+    }
+}
+
+// Finds the place for a new contract, writes it there, and its entry to the contract list. Refused, both are as they were.
+pub fn load(
+    list: &mut [u8],
+    file: &mut [u8],
+    special: &[u8],
+    journal: &[u8],
+    records: &[u8],
+    new: &[u8],
+    order: Order,
+) -> Loaded
+    ensures { λ r. ⌜ record { answer = r; list = now (list .exit); file = now (file .exit) }
+        ≡ loading order (now (list .entry)) (now (file .entry)) (record { special = now (special .entry); journal = now (journal .entry); records = now (records .entry); new = now (new .entry) }) ⌝ }
+{
+    let lent = Lengths {
+        list: list.len(),
+        file: file.len(),
+        special: special.len(),
+        journal: journal.len(),
+        records: records.len(),
+        new: new.len(),
+    };
+    let number = order.refused_unread(lent);
+    if number != 0 {
+        return Loaded::refused(Refusal { number, place: 0 });
+    }
+    let read = list::read(list, order.n);
+    if read.refusal.number != 0 {
+        return Loaded::refused(read.refusal);
+    }
+    let mut marks = [false; 9];
+    let refusal = blocking::mark_all(special, journal, records, order, &mut marks);
+    if refusal.number != 0 {
+        return Loaded::refused(refusal);
+    }
+    match contract::read(new, order.kind) {
+        ContractRead::Read(contract) => {
+            let pointer = place::place(read.list, &marks, order);
+            store(list, file, read.list, contract, pointer, order)
+        }
+        ContractRead::Refused(refusal) => Loaded::refused(refusal),
+    }
+}
+
+// What is left to do when the pointer is known: 9 where there is none; else the list, and where it fits the new contract.
+fn store(
+    list: &mut [u8],
+    file: &mut [u8],
+    old: ContractList,
+    new: Contract,
+    pointer: u32,
+    order: Order,
+) -> Loaded
+    requires { ⌜ 29 * pointer ≤ length (now file) ⌝ }
+    ensures { λ r. ⌜ record { answer = r; list = now (list .exit); file = now (file .exit) } ≡ stored order (now (list .entry)) (now (file .entry)) old new pointer ⌝ }
+{
+    if pointer == 0 {
+        return Loaded::refused(Refusal::NO_POSITION);
+    }
+    let left = old.without(pointer);
+    let renewed = left.with(order.entry(pointer));
+    let refusal = list::write(list, order.n, renewed);
+    if refusal.number != 0 {
+        return Loaded::refused(refusal);
+    }
+    let start = BYTES * (pointer as usize - 1);
+    contract::write(&mut file[start..start + BYTES], order.kind, new);
+    Loaded {
+        refusal: Refusal::NONE,
+        pointer,
+    }
+}
