@@ -38,6 +38,10 @@ recoded-set (suc k) code (e ∷ es) d h =
     let down : suc (suc k) - 1 ≡ suc k = omega arith in
     rw (other, down) (ap (λ (l : List Entry). e ∷ l) (recoded-set k code es d (omega arith)))
 
+pub length-recoded : (position code : ℕ) (es : List Entry) → length (recodedAt position code es) ≡ length es
+length-recoded position code [] = refl
+length-recoded position code (e ∷ es) = ap suc (length-recoded (position - 1) code es)
+
 module _ (l : ContractList) (position code : ℕ) where
   same-count : (es : List Entry) → es ≡ recodedAt position code (l .entries)
       → record { count = l .count; entries = es } ≡ withPriority position code l

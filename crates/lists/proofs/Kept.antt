@@ -1,6 +1,6 @@
 -- What is known of a contract list that was read: its entries keep the rule of lists.
 use Prim.Native.Nat.{ℕ, zero, suc, _+_, _/_, _≤_, _<_}
-use mathlib.Core.List.{List, [], _∷_, _++_, map, append-assoc, append-nil}
+use mathlib.Core.List.{List, [], _∷_, _++_, map, append-assoc, append-nil, List·Memᴰ, List·Memᴰ·head, List·Memᴰ·tail}
 use mathlib.Core.Bool.{Bool, true, false, _&&_, _||_, not, true≢false}
 use mathlib.Core.Path.{_≡_, refl, sym, ap, _∙_}
 use native.Mathlib.Omega.{arith}
@@ -231,3 +231,28 @@ take-each k before (p ∷ ps) (low, high, new, rest) =
 pub room-left : (n q : ℕ) (ps : List ℕ) → Apart n [] ps → 1 ≤ q → q ≤ n → among q ps ≡ false → length ps < n
 room-left n q ps kept low high new =
     omega (arith, take-each n [] ps kept, all-vacant n, one-vacant n ps q low high new)
+
+-- Entries that keep the rule have a pointer each.
+module _ (n : ℕ) where
+  not-before : (before : List ℕ) (es : List Entry) (e : Entry) → Apart n before (map (λ (x : Entry). x .pointer) es) → List·Memᴰ e es
+      → among (e .pointer) before ≡ false
+  not-before before (x ∷ es) e (low, high, new, rest) (List·Memᴰ·head here) = rw here new
+  not-before before (x ∷ es) e (low, high, new, rest) (List·Memᴰ·tail there) =
+      neither (among (e .pointer) before) (eqb (x .pointer) (e .pointer))
+      (sym (among-last (e .pointer) before (x .pointer)) ∙ not-before (before ++ (x .pointer ∷ [])) es e rest there) .0
+
+  -- A later one is another.
+  later-other : (before : List ℕ) (p : ℕ) (es : List Entry) (e : Entry) → Apart n (before ++ (p ∷ [])) (map (λ (x : Entry). x .pointer) es) → List·Memᴰ e es
+      → p ≡ e .pointer → ⊥
+  later-other before p es e rule there same =
+      let last = neither (among (e .pointer) before) (eqb p (e .pointer)) (sym (among-last (e .pointer) before p) ∙ not-before (before ++ (p ∷ [])) es e rule there) .1 in
+      eqb-false _ _ last same
+
+  pub one-each : (before : List ℕ) (es : List Entry) (e f : Entry) → Apart n before (map (λ (x : Entry). x .pointer) es) → List·Memᴰ e es → List·Memᴰ f es
+      → e .pointer ≡ f .pointer → e ≡ f
+  one-each before (x ∷ es) e f rule (List·Memᴰ·head a) (List·Memᴰ·head b) same = a ∙ sym b
+  one-each before (x ∷ es) e f (low, high, new, rest) (List·Memᴰ·head a) (List·Memᴰ·tail b) same =
+      absurd (later-other before (x .pointer) es f rest b (rw (← a) same))
+  one-each before (x ∷ es) e f (low, high, new, rest) (List·Memᴰ·tail a) (List·Memᴰ·head b) same =
+      absurd (later-other before (x .pointer) es e rest a (rw (← b) (sym same)))
+  one-each before (x ∷ es) e f (low, high, new, rest) (List·Memᴰ·tail a) (List·Memᴰ·tail b) same = one-each (before ++ (x .pointer ∷ [])) es e f rest a b same

@@ -4,3 +4,4 @@ pub mod Entries
 pub mod Relisting
 pub mod Kept
 pub mod Recoding
+pub mod Numbers

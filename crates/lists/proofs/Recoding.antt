@@ -5,7 +5,7 @@ use mathlib.Core.Bool.{Bool, false}
 use mathlib.Core.Path.{_≡_, refl, sym, ap, _∙_}
 use native.Mathlib.Omega.{arith}
 use lib.Dec.{eqb}
-use lib.ListN.{length, getD, set, take, length-take}
+use lib.ListN.{length, getD, set, take, length-take, length-set}
 use lib.Seq.{getD-take}
 use borrow.Author.Tests.{eq-eqb, ne-eqb}
 use Rattle.bits.specs.Bits.{cut, spread}
@@ -16,7 +16,7 @@ use Rattle.rows.specs.Raise.{named}
 use Rattle.rows.specs.Change.{placeOf, withBox, widthOn, brokenBy}
 use Rattle.rows.specs.declared.When.the-variants.{Bit}
 use Rattle.rows.specs.table.BestContracts.{contractList}
-use Rattle.rows.proofs.RoundTrip.{read-slots}
+use Rattle.rows.proofs.RoundTrip.{read-slots, write-length}
 use Rattle.rows.proofs.Changing.{refers, change-law}
 use Rattle.records.specs.Answer.{accepted, from}
 use Rattle.records.proofs.Inverse.{from-all}
@@ -83,21 +83,28 @@ module _ (n code : ℕ) (before : List ℕ) (vals : List ℕ) (end : ℕ) (k : �
   allowed : brokenBy (contractList n) (5 + 6 * k) code vals ≡ 0
   allowed = rw all at (facts .rule) ∙ rw (ne-eqb _ _ defined)
 
-  recoded : listWritten n (withPriority (suc k) code (listOf vals)) before
-      ≡ accepted (cut 8 8 (length before) (withBox (placeOf (contractList n) vals (5 + 6 * k)) 4 code (spread 8 before)))
+  bits : List Bool
+  bits = withBox (placeOf (contractList n) vals (5 + 6 * k)) 4 code (spread 8 before)
+
+  recoded : (listWritten n (withPriority (suc k) code (listOf vals)) before ≡ accepted (cut 8 8 (length before) bits)) × (length bits ≡ 8 * length before)
+  unfolding bits
   recoded =
       let numbers : numbersOf (withPriority (suc k) code (listOf vals)) ≡ set vals (5 + 6 * k) code = rw all at (facts .numbers) in
       let kept : listFault n (set vals (5 + 6 * k) code) ≡ 0 = rw all at (facts .fault) ∙ obeys in
-      let bits : length (spread 8 before) ≡ 232 = length-spread 8 before ∙ rw long in
+      let size : length (spread 8 before) ≡ 232 = length-spread 8 before ∙ rw long in
       let inside : 5 + 6 * k < slots (contractList n) = rw (slots-list n) (omega arith) in
-      let w = rw (bits, four) at (change-law (contractList n) (spread 8 before) (5 + 6 * k) code reads inside (facts .free) (rw four (omega arith)) allowed) in
-      rw numbers (list-accepted (listFault n) (outside n) (contractList n) (set vals (5 + 6 * k) code) before _ end long limits w kept)
+      let sized : length (set vals (5 + 6 * k) code) ≡ slots (contractList n) = length-set vals (5 + 6 * k) code ∙ read-slots (contractList n) (spread 8 before) reads in
+      let w = rw (size, four) at (change-law (contractList n) (spread 8 before) (5 + 6 * k) code reads inside (facts .free) (rw four (omega arith)) allowed) in (
+        rw numbers (list-accepted (listFault n) (outside n) (contractList n) (set vals (5 + 6 * k) code) before bits end long limits w kept),
+        write-length (contractList n) 232 (set vals (5 + 6 * k) code) sized w ∙ rw long,
+      )
 
 -- A list that was read, with one priority changed, is written as the record with just those four bits changed.
 pub list-recoded : (n : ℕ) (before : List ℕ) (l : ContractList) (position code : ℕ) → listRead n before ≡ gotList l
     → 1 ≤ position → position ≤ l .count → code ≤ 15 → (code ≡ 13 → ⊥)
-    → listWritten n (withPriority position code l) before
-    ≡ accepted (cut 8 8 (length before) (withBox (priorityPlace n l position) 4 code (spread 8 before)))
+    → (listWritten n (withPriority position code l) before ≡ accepted (cut 8 8 (length before) (withBox (priorityPlace n l position) 4 code (spread 8 before))))
+    × (length (withBox (priorityPlace n l position) 4 code (spread 8 before)) ≡ 8 * length before)
+unfolding bits
 list-recoded n before l position code h low high fits defined =
     let w = list-was-read n before l h in
     let vals : List ℕ = w .vals in
@@ -106,6 +113,8 @@ list-recoded n before l position code h low high fits defined =
     let counts : getD vals 0 0 ≡ l .count = ap (λ (x : ContractList). x .count) (w .value) in
     let up : suc (position - 1) ≡ position = omega arith in
     let place : 5 + 6 * (position - 1) ≡ 6 * position - 1 = omega arith in
-    let numbers : numbersOf l ≡ vals = sym (ap numbersOf (w .value)) ∙ (all n code before vals (w .end) (position - 1) (w .slots) (w .limits) (w .long) (w .obeys) (omega arith) (omega arith) fits defined) in
-    let done = rw (up, place) at (recoded n code before vals (w .end) (position - 1) (w .slots) (w .limits) (w .long) (w .obeys) (omega arith) (omega arith) fits defined) in
-    rw numbers (ap (λ (x : ContractList). listWritten n (withPriority position code x) before) (sym (w .value)) ∙ done)
+    let numbers : numbersOf l ≡ vals = sym (ap numbersOf (w .value)) ∙ all n code before vals (w .end) (position - 1) (w .slots) (w .limits) (w .long) (w .obeys) (omega arith) (omega arith) fits defined in
+    let done = recoded n code before vals (w .end) (position - 1) (w .slots) (w .limits) (w .long) (w .obeys) (omega arith) (omega arith) fits defined in (
+      rw numbers (ap (λ (x : ContractList). listWritten n (withPriority position code x) before) (sym (w .value)) ∙ rw (up, place) at (done .0)),
+      rw numbers (rw place at (done .1)),
+    )

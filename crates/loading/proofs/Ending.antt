@@ -3,7 +3,7 @@ use Prim.Native.Nat.{ℕ, suc, _-_, _*_, _/_, _%_, _^_, _≤_, _<_}
 use mathlib.Core.Bool.{Bool, true, false, not, _&&_, _||_, true≢false}
 use mathlib.Core.List.{List, [], _∷_, map, List·Memᴰ, List·Memᴰ·head, List·Memᴰ·tail}
 use mathlib.Core.Path.{_≡_, refl, sym, ap, _∙_}
-use mathlib.Core.Logic.{_⊎_, ⊎-elim}
+use mathlib.Core.Logic.{inl, ⊎-elim}
 use native.Mathlib.Omega.{arith}
 use lib.Dec.{eqb, leb}
 use lib.ListN.{length, getD, drop, length-map, length-drop, replicate}
@@ -34,7 +34,7 @@ use Rattle.loading.specs.Marks.{marked, refusalOf, Marking}
 use Rattle.loading.specs.Store.{renewed, stored}
 use Rattle.loading.specs.declared.Order.{Order}
 use Rattle.loading.proofs.Placing.{Named, placed-free-or-erasable, place-marked}
-use Rattle.loading.proofs.Marks.{told-blocking}
+use Rattle.loading.proofs.Told.{blocking-never}
 
 -- What all of some tests tell of one.
 of-six : (a b c d e f : Bool) → (a && b && c && d && e && f) ≡ true → (b ≡ true) × (e ≡ true) × (f ≡ true)
@@ -86,7 +86,7 @@ leaves e (f ∷ es) p (List·Memᴰ·tail there) own = go (eqb (f .pointer) p) (
     go false h = omega arith
 
 -- A free pointer is none of the entries'.
-free-among : (es : List Entry) (p : ℕ) → free es p ≡ true → among p (map (λ (e : Entry). e .pointer) es) ≡ false
+pub free-among : (es : List Entry) (p : ℕ) → free es p ≡ true → among p (map (λ (e : Entry). e .pointer) es) ≡ false
 free-among es p h = sym (same es p) ∙ not-true _ h
   where
     same : (es : List Entry) (p : ℕ) → some (λ e. eqb (e .pointer) p) es ≡ among p (map (λ (e : Entry). e .pointer) es)
@@ -186,7 +186,7 @@ module _ (o : Order) (list file : List ℕ) (lent : Lent) where
             pub refused-contract : (y : Refusal) → contractRead (o .kind) (lent .new) ≡ Refused y → loaded y 0 list file ≡ loading o list file lent
             unfolding placing
             refused-contract y e =
-                let (blocked, events, placed) = place-marked (told-blocking o (lent .special) (lent .journal) (lent .records)) m quiet in
+                let (blocked, events, placed) = place-marked (blocking-never 0 (inl refl) o (lent .special) (lent .journal) (lent .records)) m quiet in
                 rw (read-all, ← same, eq-eqb _ _ reads, events, e)
 
             named-place : (c : Contract) (blocked : ℕ → Bool) (p : ℕ) → blocking o (lent .special) (lent .journal) (lent .records) ≡ got blocked
@@ -218,5 +218,5 @@ module _ (o : Order) (list file : List ℕ) (lent : Lent) where
                 → p ≡ place (marked marks) (o .n) (o .c) (o .counter) (counted (r .list))
                 → stored o list file (r .list) c p ≡ loading o list file lent
             loads c p e small named =
-                let (blocked, events, same-place) = place-marked (told-blocking o (lent .special) (lent .journal) (lent .records)) m quiet in
+                let (blocked, events, same-place) = place-marked (blocking-never 0 (inl refl) o (lent .special) (lent .journal) (lent .records)) m quiet in
                 named-place c blocked p events e small (named ∙ same-place (o .n) (o .c) (o .counter) (counted (r .list)) (card .most) (card .counters))

@@ -1,5 +1,7 @@
 pub mod Counted
+pub mod Told
 pub mod Marks
 pub mod Placing
 pub mod Storing
 pub mod Ending
+pub mod Laws

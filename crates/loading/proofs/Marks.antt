@@ -1,8 +1,9 @@
 -- One more turn of the loops that read events and mark pointers, and from their marks to those of the blocked pointers.
-use Prim.Native.Nat.{ℕ, zero, suc, _+_, _-_, _*_, _/_, _≤_, _<_}
+use Prim.Native.Nat.{ℕ, suc, _+_, _-_, _*_, _/_, _≤_, _<_}
 use mathlib.Core.Path.{_≡_, refl, sym, ap, subst, _∙_}
 use mathlib.Core.List.{List, [], _∷_}
 use mathlib.Core.Bool.{Bool, true, false, _&&_, _||_, or-false, or-true, or-assoc}
+use mathlib.Core.Logic.{inl}
 use native.Mathlib.Omega.{arith}
 use native.Mathlib.Numerals.{add-one}
 use native.Mathlib.Nat.{sub-zero}
@@ -10,24 +11,22 @@ use lib.Dec.{eqb}
 use lib.ListN.{length, set, take, drop, length-set}
 use lib.Seq.{getD-set-same, getD-set-other}
 use borrow.Author.Tests.{eqb-true, eqb-false, eq-eqb, ne-eqb}
-use Rattle.bits.specs.Bits.{spread}
-use Rattle.rows.specs.Row.{pick}
-use Rattle.rows.specs.Walk.{Outcome, done, refused, read}
+use Rattle.rows.specs.Walk.{refused, read}
 use Rattle.rows.specs.table.Event.{event}
-use Rattle.records.specs.Answer.{refusal, answered, readRecord}
-use Rattle.records.specs.Event.{eventOf, eventRead}
-use Rattle.records.specs.Order.{Attempt, got, stopped, next, recordFrom, attempted, events}
+use Rattle.records.specs.Answer.{refusal}
+use Rattle.records.specs.Event.{eventRead}
+use Rattle.records.specs.Order.{Attempt, got, stopped, next, recordFrom, events}
 use Rattle.records.specs.declared.Refusal.{Refusal}
 use Rattle.records.specs.declared.event.Event.{Event}
 use Rattle.records.specs.declared.event.EventRead.{EventRead}
 use Rattle.records.specs.declared.event.EventRead.the-variants.{Read, Refused}
-use Rattle.records.proofs.Inverse.{read-refused}
 use Rattle.lists.specs.Special.{specialRead}
 use Rattle.lists.specs.declared.special.SpecialRead.{SpecialRead}
 use Rattle.loading.specs.Blocking.{some, moment, blocks, namedBySpecial, blocked}
-use Rattle.loading.specs.Loading.{specials, blocking}
+use Rattle.loading.specs.Loading.{blocking}
 use Rattle.loading.specs.declared.Order.{Order}
-use Rattle.loading.specs.Marks.{marked, Added, refusalOf, Marking}
+use Rattle.loading.proofs.Told.{events-never}
+use Rattle.loading.specs.Marks.{marked, Added, Marking}
 
 apart : {A : Type 0} {r : Refusal} {a : A} → stopped r ≡ got a → ⊥
 apart e = let z : _≡_ {A = ℕ} 0 1 = cc in omega arith
@@ -135,51 +134,6 @@ module _ (named : ℕ → List Event → ℕ → Bool) (names : ℕ → Event �
 pub part-read : (file : List ℕ) (i : ℕ) {r x : EventRead} → r ≡ eventRead (take (29 * i + 29 - 29 * i) (drop (29 * i) file)) → r ≡ x → eventRead (recordFrom file i) ≡ x
 part-read file i e f = let size : 29 * i + 29 - 29 * i ≡ 29 = omega arith in sym (rw size at e) ∙ f
 
--- Every refusal has a number that is not zero, so that the number tells whether there was one.
-abbrev pub Told : {A : Type 0} → Attempt A → Type 0
-Told t = (r : Refusal) → t ≡ stopped r → r .number ≡ 0 → ⊥
-
-told-got : {A : Type 0} (a : A) → Told (got a)
-told-got a r e z = apart (sym e)
-
-told-next : {A B : Type 0} (t : Attempt A) (more : A → Attempt B) → Told t → ((a : A) → Told (more a)) → Told (next t more)
-told-next (got a) more first then = then a
-told-next (stopped s) more first then = λ r e z. let same : s ≡ r = cc in first s refl (rw same z)
-
-pub told-none : {A : Type 0} (t : Attempt A) → Told t → refusalOf t .number ≡ 0 → (a : A) × (t ≡ got a)
-told-none (got a) told z = (a, refl)
-told-none (stopped r) told z = absurd (told r refl z)
-
-told-event : (bytes : List ℕ) → Told (attempted (eventRead bytes))
-unfolding readRecord
-told-event bytes r h z = go (eqb (length bytes) 29) (read event (spread 8 bytes)) refl h
-  where
-    go : (b : Bool) (o : Outcome (List ℕ)) → read event (spread 8 bytes) ≡ o
-        → attempted (pick b (answered (λ vals. Read (eventOf vals)) Refused o) (Refused (refusal 1 0))) ≡ stopped r → ⊥
-    go true (done vals end) e f = apart (sym f)
-    go true (refused n at i) e f = let same : refusal n at ≡ r = cc in read-refused event (spread 8 bytes) e (ap (λ (s : Refusal). s .number) same ∙ z)
-    go false o e f = let same : refusal 1 0 ≡ r = cc in let one : 1 ≡ r .number = ap (λ (s : Refusal). s .number) same in omega arith
-
-told-events : (n : ℕ) (file : List ℕ) (i : ℕ) → Told (events n file i)
-told-events zero file i = told-got []
-told-events (suc n) file i =
-    told-next (attempted (eventRead (recordFrom file i))) _ (told-event (recordFrom file i))
-    (λ e. told-next (events n file (suc i)) _ (told-events n file (suc i)) (λ es. told-got (e ∷ es)))
-
-told-specials : (r : SpecialRead) → Told (specials r)
-told-specials r x h z = go (eqb (r .refusal .number) 0) refl h
-  where
-    go : (b : Bool) → eqb (r .refusal .number) 0 ≡ b → pick b (got (take (r .list .count) (r .list .entries))) (stopped (r .refusal)) ≡ stopped x → ⊥
-    go true e f = apart (sym f)
-    go false e f = let same : r .refusal ≡ x = cc in eqb-false (r .refusal .number) 0 e (rw same z)
-
-pub told-blocking : (o : Order) (special journal records : List ℕ) → Told (blocking o special journal records)
-unfolding blocking
-told-blocking o special journal records =
-    told-next (specials (specialRead (o .s) special)) _ (told-specials (specialRead (o .s) special))
-    (λ entries. told-next (events (length journal / 29) journal 0) _ (told-events (length journal / 29) journal 0)
-    (λ es. told-next (events (o .s) records 0) _ (told-events (o .s) records 0) (λ fs. told-got _)))
-
 -- The time, in other words.
 pub at-time : (attempt : Attempt (List Event)) {time moment : ℕ} (hours : ℕ) {before after : List Bool} {r : Refusal} → time ≡ moment
     → Marking attempt (λ es p. some (blocks time hours p) es) before after r
@@ -214,7 +168,7 @@ module _ (o : Order) (special journal records : List ℕ) {r : SpecialRead} (rea
     blocking-read {after} {t} fine sized last =
         let n : length records / 29 ≡ o .s = omega arith in
         rw (← read, eq-eqb (r .refusal .number) 0 good)
-        (go (events (length journal / 29) journal 0) (told-events (length journal / 29) journal 0) past (events (o .s) records 0) (rw n at last))
+        (go (events (length journal / 29) journal 0) (events-never 0 (inl refl) (length journal / 29) journal 0) past (events (o .s) records 0) (rw n at last))
       where
         go : (j : Attempt (List Event)) → ((x : Refusal) → j ≡ stopped x → x .number ≡ 0 → ⊥)
             → Marking j (λ es p. some (blocks (moment (o .day) (o .minute)) (o .hours) p) es) before mid s

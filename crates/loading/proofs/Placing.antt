@@ -14,7 +14,7 @@ use Rattle.lists.specs.declared.list.Entry.{Entry}
 use Rattle.loading.specs.Marks.{marked, Marking}
 use Rattle.loading.specs.Place.{free, erasable, lowestFree, within, firstErasable, orElse, counterPlace, place}
 use Rattle.loading.proofs.Counted.{upto}
-use Rattle.loading.proofs.Marks.{Told, told-none}
+use Rattle.loading.proofs.Told.{Never, no-refusal}
 
 -- Only the blocking of the card's own pointers counts.
 module _ (b b' : ℕ → Bool) (n : ℕ) (same : (p : ℕ) → p ≤ n → b p ≡ b' p) where
@@ -106,12 +106,12 @@ placed-free-or-erasable blocked n c counter es h = go counter
     go false = or-named blocked n (either blocked n es (n - c) (suc c) (omega arith)) within-card
 
 -- Over fresh marks, reading and marking tells what is blocked, as far as the rule asks.
-pub place-marked : {attempt : Attempt (ℕ → Bool)} {marks : List Bool} {r : Refusal} → Told attempt
+pub place-marked : {attempt : Attempt (ℕ → Bool)} {marks : List Bool} {r : Refusal} → Never 0 attempt
     → Marking attempt (λ b. b) (replicate 9 false) marks r → r .number ≡ 0
     → (blocked : ℕ → Bool) × (attempt ≡ got blocked)
     × ((n c : ℕ) (counter : Bool) (es : List Entry) → n ≤ 8 → c ≤ n → place (marked marks) n c counter es ≡ place blocked n c counter es)
 place-marked {attempt} {marks} {r} told m z =
-    let all = told-none attempt told (sym (ap (λ (x : Refusal). x .number) (m .answer)) ∙ z) in
+    let all = no-refusal attempt told (sym (ap (λ (x : Refusal). x .number) (m .answer)) ∙ z) in
     let blocked : ℕ → Bool = all .0 in
     let each : (p : ℕ) → p ≤ 8 → marked marks p ≡ blocked p =
     λ p few. m .marks blocked (all .1) .each p few ∙ ap (λ (b : Bool). b || blocked p) (getD-replicate 9 p false false (omega arith)) in

@@ -3,6 +3,7 @@ use Prim.Native.Nat.{ℕ, _+_, _-_, _*_}
 use mathlib.Core.Bool.{Bool, true, false}
 use mathlib.Core.List.{List, _++_}
 use mathlib.Core.Path.{_≡_, refl, sym, ap, _∙_}
+use native.Mathlib.Omega.{arith}
 use lib.Dec.{eqb}
 use lib.Seq.{drop-drop}
 use borrow.Rule.Slice.PartMut.{putMid}
@@ -11,7 +12,8 @@ use borrow.Author.Tests.{eq-eqb, ne-eqb}
 use Rattle.rows.specs.Row.{pick}
 use Rattle.rows.specs.Walk.{Outcome, done, refused, andThen, write}
 use Rattle.rows.specs.table.BestContracts.{contractList}
-use Rattle.records.specs.Answer.{Written, refusal, denied, written}
+use Rattle.rows.proofs.RoundTrip.{write-refused}
+use Rattle.records.specs.Answer.{accepted, Written, refusal, denied, written}
 use Rattle.records.specs.Order.{recordFrom}
 use Rattle.records.specs.declared.Refusal.{Refusal}
 use Rattle.lists.specs.List.{listWritten, outside, listFault, numbersOf}
@@ -39,6 +41,26 @@ list-unchanged n l before = go (eqb (length before) 29) (outside n)
     go true false (done bs end) h = absurd (h refl)
     go true false (refused m p i) h = refl
     go false out o h = refl
+
+-- A writing without a refusal was accepted.
+pub list-taken : (n : ℕ) (l : ContractList) (before : List ℕ) → listWritten n l before .answer .number ≡ 0
+    → listWritten n l before ≡ accepted (listWritten n l before .bytes)
+unfolding writeList
+list-taken n l before = go (eqb (length before) 29) (outside n) (write (contractList n) 232 (numbersOf l)) refl
+  where
+    Taken : Written → Type 0
+    Taken w = w .answer .number ≡ 0 → w ≡ accepted (w .bytes)
+
+    obeyed : (t : Bool) (bs : List Bool) (end k : ℕ) → Taken (written before (pick t (done bs end) (refused 6 k 0)))
+    obeyed true bs end k z = refl
+    obeyed false bs end k z = absurd (omega arith)
+
+    go : (b out : Bool) (o : Outcome (List Bool)) → write (contractList n) 232 (numbersOf l) ≡ o
+        → Taken (pick b (pick out (denied 11 0 before) (written before (andThen o (λ bs end. obeying (listFault n (numbersOf l)) bs end)))) (denied 1 0 before))
+    go true true o e z = absurd (omega arith)
+    go true false (done bs end) e z = obeyed (eqb (listFault n (numbersOf l)) 0) bs end (listFault n (numbersOf l)) z
+    go true false (refused m p i) e z = absurd (write-refused (contractList n) 232 (numbersOf l) e z)
+    go false out o e z = absurd (omega arith)
 
 -- The ways out of a store.
 module _ (o : Order) (list file : List ℕ) (old : ContractList) (new : Contract) (pointer : ℕ) where

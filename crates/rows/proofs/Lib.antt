@@ -10,3 +10,4 @@ pub mod Running
 pub mod Tables
 pub mod Wide
 pub mod Putting
+pub mod Numbers

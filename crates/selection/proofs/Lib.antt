@@ -2,3 +2,4 @@ pub mod Choosing
 pub mod Refusals
 pub mod Least
 pub mod Laws
+pub mod FourBits

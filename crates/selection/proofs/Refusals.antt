@@ -1,80 +1,17 @@
 -- The refusals of a contract list: none of them is 8, and what is not refused is a list.
-use Prim.Native.Nat.{ℕ, suc, _+_, _/_, _≤_}
+use Prim.Native.Nat.{ℕ}
 use mathlib.Core.Bool.{Bool, true, false}
-use mathlib.Core.List.{List, [], _∷_, _++_}
-use mathlib.Core.Path.{_≡_, refl, sym}
+use mathlib.Core.List.{List}
+use mathlib.Core.Path.{_≡_, refl}
 use native.Mathlib.Omega.{arith}
-use lib.Dec.{eqb, ltb}
-use lib.ListN.{length, getD, drop}
-use Rattle.bits.specs.Bits.{odd, spread, leading}
-use Rattle.rows.specs.Row.{Row, pick, broken}
-use Rattle.rows.specs.Walk.{Outcome, done, refused, andThen, total, boxesOf, exceeds, fault, Source, field, walk, boxesAt, ending, read}
+use lib.Dec.{eqb}
+use borrow.Author.Tests.{eqb-true, eqb-false}
 use Rattle.rows.specs.table.BestContracts.{contractList}
-use Rattle.rows.specs.declared.Rule.{Rule}
-use Rattle.rows.specs.declared.Rule.the-variants.{Any, Most, Tariff, NoSecond}
-use Rattle.rows.proofs.Walked.{never}
-use Rattle.records.specs.Answer.{refusal, answered}
-use Rattle.records.proofs.Inverse.{read-refused}
 use Rattle.lists.specs.List.{listOf, gotList, noList, listFault, outside, listRead}
-use Rattle.lists.specs.Listing.{obeying, readList}
 use Rattle.lists.specs.declared.list.ContractList.{ContractList}
 use Rattle.lists.specs.declared.list.ListRead.{ListRead}
-
-small : (t : Bool) (a b m : ℕ) → a ≤ m → b ≤ m → pick t a b ≤ m
-small true a b m h k = h
-small false a b m h k = k
-
-broken-small : (r : Rule) (vs : List ℕ) → broken r vs ≤ 7
-broken-small Any vs = omega arith
-broken-small (Most m) vs = small (ltb m (getD vs 0 0)) 4 0 7 (omega arith) (omega arith)
-broken-small Tariff vs = small (eqb (getD vs 2 0) 13) 4 0 7 (omega arith) (omega arith)
-broken-small NoSecond vs = small (odd (getD vs 0 0 / 2)) 3 0 7 (omega arith) (omega arith)
-
-field-number : (room : ℕ) (from : Source) (r : Row) (i : ℕ) (seen : List ℕ) (at : ℕ) {n p j : ℕ}
-    → field room from r i seen at ≡ refused n p j → n ≤ 7
-unfolding field
-field-number room from r i seen at {n} {p} {j} = go (eqb m 0)
-  where
-    vs : List ℕ
-    vs = from at (length seen) (boxesOf r seen)
-
-    m : ℕ
-    m = fault (exceeds (boxesOf r seen) vs) (at + total (boxesOf r seen)) room (broken (r .rule) vs)
-
-    least : m ≤ 7
-    least =
-        small (exceeds (boxesOf r seen) vs) 7 _ 7 (omega arith)
-        (small (ltb room (at + total (boxesOf r seen))) 2 _ 7 (omega arith) (broken-small (r .rule) vs))
-
-    go : (t : Bool) → pick t (done vs (at + total (boxesOf r seen))) (refused m at i) ≡ refused n p j → n ≤ 7
-    go true h = never (sym h)
-    go false h = let same : m ≡ n = cc in rw same at least
-
-walk-number : (room : ℕ) (from : Source) (rs : List Row) (i : ℕ) (seen : List ℕ) (at : ℕ) {n p j : ℕ}
-    → walk room from rs i seen at ≡ refused n p j → n ≤ 7
-walk-number room from [] i seen at h = never (sym h)
-walk-number room from (r ∷ rs) i seen at {n} {p} {j} h =
-    go (field room from r i seen at) (field-number room from r i seen at) h
-    (λ vs end. walk-number room from rs (suc i) (seen ++ vs) end)
-  where
-    go : (o : Outcome (List ℕ)) → (o ≡ refused n p j → n ≤ 7)
-        → andThen o (λ vs end. walk room from rs (suc i) (seen ++ vs) end) ≡ refused n p j
-        → ((vs : List ℕ) (end : ℕ) → walk room from rs (suc i) (seen ++ vs) end ≡ refused n p j → n ≤ 7)
-        → n ≤ 7
-    go (done vs end) own h rest = rest vs end h
-    go (refused m q k) own h rest = own h
-
-read-number : (rows : List Row) (bs : List Bool) {n p j : ℕ} → read rows bs ≡ refused n p j → n ≤ 7
-unfolding read ending
-read-number rows bs {n} {p} {j} = go (walk (length bs) (boxesAt bs) rows 0 [] 0) (walk-number (length bs) (boxesAt bs) rows 0 [] 0)
-  where
-    ends : (t : Bool) (vals : List ℕ) (end place : ℕ) → pick t (done vals end) (refused 5 place 0) ≡ refused n p j → n ≤ 7
-    ends true vals end place h = never (sym h)
-    ends false vals end place h = let five : _≡_ {A = ℕ} 5 n = cc in omega arith
-
-    go : (o : Outcome (List ℕ)) → (o ≡ refused n p j → n ≤ 7) → andThen o (ending bs) ≡ refused n p j → n ≤ 7
-    go (done vals end) own h = ends (eqb (end + leading (drop end bs)) (length bs)) vals end (end + leading (drop end bs)) h
-    go (refused m q k) own h = own h
+use Rattle.lists.proofs.Kept.{list-got}
+use Rattle.lists.proofs.Numbers.{list-number}
 
 -- A reading gave a list, or a refusal that is not 8.
 pub data Told (r : ListRead) : Type 0 where
@@ -82,19 +19,10 @@ pub data Told (r : ListRead) : Type 0 where
   refuses : (r .refusal .number ≡ 0 → ⊥) → (r .refusal .number ≡ 8 → ⊥) → Told r
 
 pub list-told : (n : ℕ) (bytes : List ℕ) → Told (listRead n bytes)
-unfolding readList
-list-told n bytes = go (eqb (length bytes) 29) (outside n) (read (contractList n) (spread 8 bytes)) refl
+list-told n bytes = go (eqb (listRead n bytes .refusal .number) 0) refl
   where
-    obeyed : (t : Bool) (vals : List ℕ) (end k : ℕ)
-        → Told (answered (λ xs. gotList (listOf xs)) noList (pick t (done vals end) (refused 6 k 0)))
-    obeyed true vals end k = reads (listOf vals) refl
-    obeyed false vals end k = refuses (λ e. omega arith) (λ e. omega arith)
-
-    go : (whole out : Bool) (o : Outcome (List ℕ)) → read (contractList n) (spread 8 bytes) ≡ o
-        → Told (pick whole (pick out (noList (refusal 11 0)) (answered (λ xs. gotList (listOf xs)) noList (andThen o (λ vals end. obeying (listFault n vals) vals end)))) (noList (refusal 1 0)))
-    go true false (done vals end) h = obeyed (eqb (listFault n vals) 0) vals end (listFault n vals)
-    go true false (refused m p i) h =
-        let few : m ≤ 7 = read-number (contractList n) (spread 8 bytes) h in
-        refuses (read-refused (contractList n) (spread 8 bytes) h) (λ e. omega arith)
-    go true true o h = refuses (λ e. omega arith) (λ e. omega arith)
-    go false out o h = refuses (λ e. omega arith) (λ e. omega arith)
+    go : (t : Bool) → eqb (listRead n bytes .refusal .number) 0 ≡ t → Told (listRead n bytes)
+    go true z = reads (listRead n bytes .list) (list-got n bytes (eqb-true _ _ z))
+    go false z =
+        refuses (eqb-false _ _ z)
+        (list-number (λ vals. gotList (listOf vals)) noList (λ (r : ListRead). r .refusal .number) (λ vals. refl) (λ r. refl) (listFault n) (outside n) (contractList n) 8 (omega arith) (λ e. omega arith) bytes)

@@ -7,7 +7,7 @@ moment-requires : tie.Need-moment-requires
 moment-requires c κs = search needs
 
 returns : tie.Need-returns
-returns c = rw (← c .before .moment .ensures, lt-ltb _ _ (c .if1 .taken))
+returns c = simp (← c .before .moment .ensures, lt-ltb _ _ (c .if1 .taken))
 
 mul-result : tie.Need-mul-result
 mul-result c = search needs

@@ -1,0 +1,329 @@
+-- What loading promises: the pointer is the one that the rule names, 9 exactly where it names none, nothing else on the card
+-- changes, and no entry leaves the list that was not erasable.
+use Prim.Native.Nat.{ℕ, _+_, _-_, _*_, _/_, _≤_, _<_}
+use mathlib.Core.Bool.{Bool, true, false, not, _||_, true≢false}
+use mathlib.Core.List.{List, [], _∷_, _++_, map, List·Memᴰ, List·Memᴰ·head, List·Memᴰ·tail, Memᴰ·append-left, append-assoc}
+use mathlib.Core.Path.{_≡_, refl, sym, ap, _∙_}
+use mathlib.Core.Logic.{_⊎_, inl, inr, ⊎-elim}
+use native.Mathlib.Omega.{arith}
+use lib.Dec.{eqb, ltb}
+use lib.ListN.{length, take, drop, length-append, length-drop, take-append-drop}
+use lib.Seq.{length-take-le, take-at, drop-at, drop-append-le, take-append-le, drop-append-add, drop-drop}
+use borrow.Author.Tests.{eq-eqb, ne-eqb, eqb-true, eqb-false, ltb-true, ltb-false, not-true}
+use Rattle.rows.specs.Row.{pick}
+use Rattle.records.specs.Answer.{Written, refusal, accepted}
+use Rattle.records.specs.Order.{Attempt, got, stopped, next, needs, recordFrom}
+use Rattle.records.specs.declared.Refusal.{Refusal}
+use Rattle.rows.specs.table.BestContracts.{contractList}
+use Rattle.lists.specs.List.{numbersOf, gotList, outside, listFault, listRead, listWritten}
+use Rattle.lists.specs.Rules.{among}
+use Rattle.lists.specs.Entries.{counted, listing, attempted, without}
+use Rattle.lists.specs.declared.list.Entry.{Entry}
+use Rattle.lists.specs.declared.list.ContractList.{ContractList}
+use Rattle.lists.proofs.Kept.{list-kept, list-got, one-each}
+use Rattle.lists.proofs.Numbers.{list-write-number}
+use Rattle.lists.proofs.list.Laws.{list-write-read}
+use Rattle.contract.specs.Contract.{contractRead}
+use Rattle.contract.specs.declared.Contract.{Contract}
+use Rattle.contract.specs.declared.ContractRead.{ContractRead}
+use Rattle.contract.specs.declared.ContractRead.the-variants.{Read, Refused}
+use Rattle.loading.specs.Place.{free, erasable, place, afterwards}
+use Rattle.loading.specs.Loading.{Lent, Found, found, Outcome, contractGot, lengths, lengthsOf, limits, loaded, newEntry, placed, blocking, placing, finding, settled, loading}
+use Rattle.loading.specs.declared.Order.{Order}
+use Rattle.loading.proofs.Placing.{Named, placed-free-or-erasable}
+use Rattle.loading.proofs.Told.{apart, Never, Unused, next-never, needs-never, list-never, blocking-never, contract-never}
+use Rattle.loading.proofs.Storing.{list-taken}
+use Rattle.loading.proofs.Ending.{Card, unread-none, free-among}
+
+-- Steps that came to a value, each by itself.
+next-got : {A B : Type 0} (t : Attempt A) (more : A → Attempt B) {b : B} → next t more ≡ got b → (a : A) × (t ≡ got a) × (more a ≡ got b)
+next-got (got a) more h = (a, refl, h)
+next-got (stopped r) more h = apart (sym h)
+
+needs-got : {A : Type 0} (t : Bool) (n : ℕ) (more : Attempt A) {a : A} → needs t n more ≡ got a → (t ≡ true) × (more ≡ got a)
+needs-got true n more h = (refl, h)
+needs-got false n more h = apart (sym h)
+
+-- The steps that were stopped by k, which the first cannot be.
+next-stopped : {A B : Type 0} (k : ℕ) (t : Attempt A) (more : A → Attempt B) {r : Refusal} → Never k t → next t more ≡ stopped r → r .number ≡ k
+    → (a : A) × (t ≡ got a) × (more a ≡ stopped r)
+next-stopped k (got a) more never h z = (a, refl, h)
+next-stopped k (stopped s) more {r} never h z = absurd (let same : s ≡ r = cc in never s refl (rw same z))
+
+needs-stopped : {A : Type 0} (k : ℕ) (t : Bool) (n : ℕ) (more : Attempt A) {r : Refusal} → (n ≡ k → ⊥) → needs t n more ≡ stopped r → r .number ≡ k
+    → (t ≡ true) × (more ≡ stopped r)
+needs-stopped k true n more other h z = (refl, h)
+needs-stopped k false n more {r} other h z = absurd (other (let same : refusal n 0 ≡ r = cc in ap (λ (x : Refusal). x .number) same ∙ z))
+
+-- The contract file with a record at its place: that record, and every other.
+module _ (p : ℕ) (new file : List ℕ) (long : length new ≡ 29) (room : 29 * (p - 1) + 29 ≤ length file) where
+  front : length (take (29 * (p - 1)) file) ≡ 29 * (p - 1)
+  front = length-take-le (29 * (p - 1)) file (omega arith)
+
+  placed-own : recordFrom (placed p new file) (p - 1) ≡ new
+  placed-own = rw (drop-at (take (29 * (p - 1)) file) _ (29 * (p - 1)) front) (take-at new _ 29 long)
+
+  -- A record in front is one of the front's alone.
+  in-front : (k : ℕ) (rest : List ℕ) → k < p - 1 → recordFrom (take (29 * (p - 1)) file ++ rest) k ≡ recordFrom (take (29 * (p - 1)) file) k
+  in-front k rest h =
+      let inside : 29 * k ≤ length (take (29 * (p - 1)) file) = omega (arith, front) in
+      let whole : 29 ≤ length (drop (29 * k) (take (29 * (p - 1)) file)) = simp length-drop (omega (arith, front)) in
+      rw (drop-append-le (29 * k) (take (29 * (p - 1)) file) rest inside) (take-append-le 29 (drop (29 * k) (take (29 * (p - 1)) file)) rest whole)
+
+  placed-other : (k : ℕ) → (k ≡ p - 1 → ⊥) → recordFrom (placed p new file) k ≡ recordFrom file k
+  placed-other k other = go (ltb k (p - 1)) refl
+    where
+      at : ℕ
+      at = 29 * (p - 1)
+
+      go : (t : Bool) → ltb k (p - 1) ≡ t → recordFrom (placed p new file) k ≡ recordFrom file k
+      go true e =
+          let h : k < p - 1 = ltb-true _ _ e in
+          in-front k _ h ∙ sym (ap (λ (l : List ℕ). recordFrom l k) (sym (take-append-drop (29 * (p - 1)) file)) ∙ in-front k _ h)
+      go false e =
+          let h : p - 1 ≤ k = ltb-false _ _ e in
+          let m : ℕ = 29 * k - (29 * (p - 1) + 29) in
+          let up : 29 * (p - 1) + 29 + m ≡ 29 * k = omega arith in
+          let size : length (take (29 * (p - 1)) file ++ new) ≡ 29 * (p - 1) + 29 = rw (length-append, front, long) in
+          let parts : placed p new file ≡ (take (29 * (p - 1)) file ++ new) ++ drop (29 * (p - 1) + 29) file = sym (append-assoc (take (29 * (p - 1)) file) new (drop (29 * (p - 1) + 29) file)) in
+          let far : length (take (29 * (p - 1)) file ++ new) + m ≡ 29 * k = omega (arith, size, up) in
+          let past : drop (29 * k) (placed p new file) ≡ drop (29 * k) file =
+          ap (drop (29 * k)) parts ∙ rw far at (drop-append-add (take (29 * (p - 1)) file ++ new) (drop (29 * (p - 1) + 29) file) m)
+          ∙ drop-drop m (29 * (p - 1) + 29) file ∙ ap (λ (j : ℕ). drop j file) up in
+          ap (take 29) past
+
+-- A listed entry's pointer is not free.
+listed-among : (es : List Entry) (e : Entry) → List·Memᴰ e es → among (e .pointer) (map (λ (x : Entry). x .pointer) es) ≡ true
+listed-among (x ∷ es) e (List·Memᴰ·head here) = rw (eq-eqb _ _ (ap (λ (y : Entry). y .pointer) (sym here)))
+listed-among (x ∷ es) e (List·Memᴰ·tail there) = go (eqb (x .pointer) (e .pointer)) (listed-among es e there)
+  where
+    go : (t : Bool) {u : Bool} → u ≡ true → (t || u) ≡ true
+    go true h = refl
+    go false h = h
+
+-- An entry of another pointer is left.
+left-over : (es : List Entry) (e : Entry) (p : ℕ) → List·Memᴰ e es → (e .pointer ≡ p → ⊥) → List·Memᴰ e (without p es)
+left-over (x ∷ es) e p (List·Memᴰ·head here) other =
+    let kept : eqb (x .pointer) p ≡ false = ne-eqb _ _ (λ same. other (ap (λ (y : Entry). y .pointer) here ∙ same)) in
+    rw kept (List·Memᴰ·head here)
+left-over (x ∷ es) e p (List·Memᴰ·tail there) other = go (eqb (x .pointer) p) (left-over es e p there other)
+  where
+    go : (t : Bool) → List·Memᴰ e (without p es) → List·Memᴰ e (pick t (without p es) (x ∷ without p es))
+    go true m = m
+    go false m = List·Memᴰ·tail m
+
+names-none : (p : ℕ) (f : Found) (r : Refusal) → needs (not (eqb p 0)) 9 (got f) ≡ stopped r → p ≡ 0
+names-none p f r = go (eqb p 0) refl
+  where
+    go : (t : Bool) → eqb p 0 ≡ t → needs (not t) 9 (got f) ≡ stopped r → p ≡ 0
+    go true e h = eqb-true _ _ e
+    go false e h = apart h
+
+-- All that was read: the list, the pointers that the events block, the new contract; and the pointer that the rule names.
+pub record AllRead (o : Order) (list file : List ℕ) (lent : Lent) : Type 0 where
+  pub card : Card o list file lent
+  pub l : ContractList
+  pub reads : listRead (o .n) list ≡ gotList l
+  pub blocked : ℕ → Bool
+  pub events : blocking o (lent .special) (lent .journal) (lent .records) ≡ got blocked
+  pub new : Contract
+  pub contract : contractRead (o .kind) (lent .new) ≡ Read new
+
+-- The pointer that the rule names then.
+abbrev pub namedBy : {o : Order} {list file : List ℕ} {lent : Lent} → AllRead o list file lent → ℕ
+namedBy {o} a = place (a .blocked) (o .n) (o .c) (o .counter) (counted (a .l))
+
+attempted-got : (n : ℕ) (list : List ℕ) (l : ContractList) → attempted (listRead n list) ≡ got l → listRead n list ≡ gotList l
+attempted-got n list l = go (eqb (listRead n list .refusal .number) 0) refl
+  where
+    go : (t : Bool) → eqb (listRead n list .refusal .number) 0 ≡ t → pick t (got (listRead n list .list)) (stopped (listRead n list .refusal)) ≡ got l → listRead n list ≡ gotList l
+    go true e h = let same : listRead n list .list ≡ l = cc in list-got n list (eqb-true _ _ e) ∙ ap gotList same
+    go false e h = apart (sym h)
+
+contract-got : (r : ContractRead) (c : Contract) → contractGot r ≡ got c → r ≡ Read c
+contract-got (Read d) c h = cc
+contract-got (Refused x) c h = apart (sym h)
+
+-- Where a place was found, all was read.
+found-read : (o : Order) (list file : List ℕ) (lent : Lent) (f : Found) → finding o list file lent ≡ got f
+    → (a : AllRead o list file lent) × (f ≡ record { entries = counted (a .l); pointer = namedBy a }) × (namedBy a ≡ 0 → ⊥)
+unfolding finding placing
+found-read o list file lent f h =
+    let (lengths-ok, h1) = needs-got (lengths o (lengthsOf list file lent)) 1 (needs (limits o (length (lent .journal) / 29)) 11 (placing o list lent)) h in
+    let (limits-ok, h2) = needs-got (limits o (length (lent .journal) / 29)) 11 (placing o list lent) h1 in
+    let (l, list-ok, h3) = next-got (attempted (listRead (o .n) list)) _ h2 in
+    let (blocked, events, h4) = next-got (blocking o (lent .special) (lent .journal) (lent .records)) _ h3 in
+    let (new, contract-ok, h5) = next-got (contractGot (contractRead (o .kind) (lent .new))) _ h4 in
+    let p : ℕ = place blocked (o .n) (o .c) (o .counter) (counted l) in
+    let (named, h6) = needs-got (not (eqb p 0)) 9 (got (record { entries = counted l; pointer = p })) h5 in
+    let card = unread-none o list file lent (rw (lengths-ok, limits-ok)) in
+    let all : AllRead o list file lent =
+    record {
+      card = card;
+      l = l;
+      reads = attempted-got (o .n) list l list-ok;
+      blocked = blocked;
+      events = events;
+      new = new;
+      contract = contract-got (contractRead (o .kind) (lent .new)) new contract-ok;
+    } in
+    (all, cc, eqb-false _ _ (not-true _ named))
+
+-- And the other way round.
+read-found : {o : Order} {list file : List ℕ} {lent : Lent} (a : AllRead o list file lent)
+    → finding o list file lent ≡ found (counted (a .l)) (namedBy a)
+unfolding finding placing
+read-found a = rw (a .card .lengths-agree, a .card .in-limits, a .reads, a .events, a .contract)
+
+-- Loading that was accepted: the pointer is the one that the rule names on what was read; the contract list is written with the
+-- old entries in order, without any of that pointer, then the new one; the contract file has the new record at its place.
+pub record Accepted (o : Order) (list file : List ℕ) (lent : Lent) (out : Outcome) : Type 0 where
+  pub all : AllRead o list file lent
+  pub named : out .answer .pointer ≡ namedBy all
+  pub pointer : out .answer .pointer ≡ 0 → ⊥
+  pub listed : listWritten (o .n) (listing (afterwards (newEntry o (out .answer .pointer)) (counted (all .l)))) list ≡ accepted (out .list)
+  pub filed : out .file ≡ placed (out .answer .pointer) (lent .new) file
+
+module _ (o : Order) (list file : List ℕ) (lent : Lent) where
+  abbrev out : Outcome
+  out = loading o list file lent
+
+  -- Refused, both are as they were, and the pointer is 0.
+  pub refused-unchanged : (out .answer .refusal .number ≡ 0 → ⊥) → (out .list ≡ list) × (out .file ≡ file) × (out .answer .pointer ≡ 0)
+  unfolding loading
+  refused-unchanged = go (finding o list file lent)
+    where
+      w : Found → Written
+      w f = listWritten (o .n) (listing (afterwards (newEntry o (f .pointer)) (f .entries))) list
+
+      stores : (f : Found) (t : Bool)
+          → (pick t (loaded (refusal 0 0) (f .pointer) (w f .bytes) (placed (f .pointer) (lent .new) file)) (loaded (w f .answer) 0 list file) .answer .refusal .number ≡ 0 → ⊥)
+          → (pick t (loaded (refusal 0 0) (f .pointer) (w f .bytes) (placed (f .pointer) (lent .new) file)) (loaded (w f .answer) 0 list file) .list ≡ list)
+          × (pick t (loaded (refusal 0 0) (f .pointer) (w f .bytes) (placed (f .pointer) (lent .new) file)) (loaded (w f .answer) 0 list file) .file ≡ file)
+          × (pick t (loaded (refusal 0 0) (f .pointer) (w f .bytes) (placed (f .pointer) (lent .new) file)) (loaded (w f .answer) 0 list file) .answer .pointer ≡ 0)
+      stores f true h = absurd (h refl)
+      stores f false h = (refl, refl, refl)
+
+      go : (t : Attempt Found) → (settled o list file (lent .new) t .answer .refusal .number ≡ 0 → ⊥)
+          → (settled o list file (lent .new) t .list ≡ list) × (settled o list file (lent .new) t .file ≡ file) × (settled o list file (lent .new) t .answer .pointer ≡ 0)
+      go (got f) h = stores f (eqb (w f .answer .number) 0) h
+      go (stopped r) h = (refl, refl, refl)
+
+  found-never : Never 0 (finding o list file lent)
+  unfolding finding placing
+  found-never =
+      needs-never 0 (lengths o (lengthsOf list file lent)) 1 _ (λ e. omega arith)
+      (needs-never 0 (limits o (length (lent .journal) / 29)) 11 _ (λ e. omega arith)
+      (next-never 0 (attempted (listRead (o .n) list)) _ (list-never 0 (inl refl) (o .n) list)
+      (λ l. next-never 0 (blocking o (lent .special) (lent .journal) (lent .records)) _ (blocking-never 0 (inl refl) o (lent .special) (lent .journal) (lent .records))
+      (λ blocked. next-never 0 (contractGot (contractRead (o .kind) (lent .new))) _ (contract-never 0 (inl refl) (o .kind) (lent .new))
+      (λ new. needs-never 0 (not (eqb (place blocked (o .n) (o .c) (o .counter) (counted l)) 0)) 9 (got _) (λ e. omega arith) (λ r e z. apart e))))))
+
+  -- Where it was 9 that stopped it, all was read.
+  stopped-nine : (r : Refusal) → finding o list file lent ≡ stopped r → r .number ≡ 9 → (a : AllRead o list file lent) × (namedBy a ≡ 0)
+  unfolding finding placing
+  stopped-nine r h z =
+      let far : Unused 9 = inr (omega arith, λ e. omega arith) in
+      let (lengths-ok, h1) = needs-stopped 9 (lengths o (lengthsOf list file lent)) 1 (needs (limits o (length (lent .journal) / 29)) 11 (placing o list lent)) (λ e. omega arith) h z in
+      let (limits-ok, h2) = needs-stopped 9 (limits o (length (lent .journal) / 29)) 11 (placing o list lent) (λ e. omega arith) h1 z in
+      let (l, list-ok, h3) = next-stopped 9 (attempted (listRead (o .n) list)) _ (list-never 9 far (o .n) list) h2 z in
+      let (blocked, events, h4) = next-stopped 9 (blocking o (lent .special) (lent .journal) (lent .records)) _ (blocking-never 9 far o (lent .special) (lent .journal) (lent .records)) h3 z in
+      let (new, contract-ok, h5) = next-stopped 9 (contractGot (contractRead (o .kind) (lent .new))) _ (contract-never 9 far (o .kind) (lent .new)) h4 z in
+      let card = unread-none o list file lent (rw (lengths-ok, limits-ok)) in
+      let all : AllRead o list file lent =
+      record {
+        card = card;
+        l = l;
+        reads = attempted-got (o .n) list l list-ok;
+        blocked = blocked;
+        events = events;
+        new = new;
+        contract = contract-got (contractRead (o .kind) (lent .new)) new contract-ok;
+      } in
+      (all, names-none (place blocked (o .n) (o .c) (o .counter) (counted l)) _ r h5)
+
+  -- Accepted, it did what the rule says.
+  pub accepted-loading : out .answer .refusal .number ≡ 0 → Accepted o list file lent out
+  unfolding loading
+  accepted-loading = go (finding o list file lent) refl
+    where
+      stores : (a : AllRead o list file lent) → (namedBy a ≡ 0 → ⊥) → (w : Written)
+          → listWritten (o .n) (listing (afterwards (newEntry o (namedBy a)) (counted (a .l)))) list ≡ w
+          → (t : Bool) → eqb (w .answer .number) 0 ≡ t
+          → pick t (loaded (refusal 0 0) (namedBy a) (w .bytes) (placed (namedBy a) (lent .new) file)) (loaded (w .answer) 0 list file) .answer .refusal .number ≡ 0
+          → Accepted o list file lent (pick t (loaded (refusal 0 0) (namedBy a) (w .bytes) (placed (namedBy a) (lent .new) file)) (loaded (w .answer) 0 list file))
+      stores a some w e true z h =
+          let zero = eqb-true _ _ z in
+          let taken : w ≡ accepted (w .bytes) = rw e at (list-taken (o .n) (listing (afterwards (newEntry o (namedBy a)) (counted (a .l)))) list (rw e zero)) in
+          record { all = a; named = refl; pointer = some; listed = e ∙ taken; filed = refl }
+      stores a some w e false z h = absurd (eqb-false _ _ z h)
+
+      go : (t : Attempt Found) → finding o list file lent ≡ t → settled o list file (lent .new) t .answer .refusal .number ≡ 0
+          → Accepted o list file lent (settled o list file (lent .new) t)
+      go (got f) e h =
+          let (a, same, some) = found-read o list file lent f e in
+          rw same (stores a some _ refl _ refl (rw same at h))
+      go (stopped r) e h = absurd (found-never r e h)
+
+  -- The list afterwards reads as the old entries in order, without any of the pointer, then the new one.
+  pub list-afterwards : (a : Accepted o list file lent out)
+      → listRead (o .n) (out .list) ≡ gotList (listing (afterwards (newEntry o (out .answer .pointer)) (counted (a .all .l))))
+  list-afterwards a = list-write-read (o .n) list (out .list) _ refl (a .listed)
+
+  inside : (a : Accepted o list file lent out) → 29 * (out .answer .pointer - 1) + 29 ≤ length file
+  inside a =
+      let card = a .all .card in
+      let most : out .answer .pointer ≤ o .n = rw (← a .named) at (placed-free-or-erasable (a .all .blocked) (o .n) (o .c) (o .counter) (counted (a .all .l)) (card .counters) .most) in
+      let some = a .pointer in
+      let long : length file ≡ 29 * o .n = card .file-long in
+      omega arith
+
+  -- The new record stands at its place,
+  pub record-afterwards : Accepted o list file lent out → recordFrom (out .file) (out .answer .pointer - 1) ≡ lent .new
+  record-afterwards a = ap (λ (l : List ℕ). recordFrom l (out .answer .pointer - 1)) (a .filed) ∙ placed-own (out .answer .pointer) (lent .new) file (a .all .card .new-long) (inside a)
+
+  -- where it reads as the new contract;
+  pub contract-afterwards : (a : Accepted o list file lent out) → contractRead (o .kind) (recordFrom (out .file) (out .answer .pointer - 1)) ≡ Read (a .all .new)
+  contract-afterwards a = rw (record-afterwards a) (a .all .contract)
+
+  -- every other contract record is as before.
+  pub rest-kept : Accepted o list file lent out → (k : ℕ) → (k ≡ out .answer .pointer - 1 → ⊥) → recordFrom (out .file) k ≡ recordFrom file k
+  rest-kept a k other =
+      ap (λ (l : List ℕ). recordFrom l k) (a .filed) ∙ placed-other (out .answer .pointer) (lent .new) file (a .all .card .new-long) (inside a) k other
+
+  -- No entry leaves the list that was not erasable.
+  pub erasable-leaves : (a : Accepted o list file lent out) (e : Entry) → List·Memᴰ e (counted (a .all .l)) → e .pointer ≡ out .answer .pointer
+      → erasable (a .all .blocked) e ≡ true
+  erasable-leaves a e listed own =
+      let es : List Entry = counted (a .all .l) in
+      let p : ℕ = out .answer .pointer in
+      let names : Named (a .all .blocked) (o .n) es p = rw (← a .named) at (placed-free-or-erasable (a .all .blocked) (o .n) (o .c) (o .counter) es (a .all .card .counters)) in
+      ⊎-elim
+      (λ f. absurd (true≢false (sym (listed-among es e listed) ∙ rw (← own) at (free-among es p f))))
+      (λ x.
+      let same : e ≡ x .entry = one-each (o .n) [] es e (x .entry) (list-kept (o .n) list (a .all .l) (a .all .reads) .apart) listed (x .listed) (own ∙ sym (x .pointer)) in
+      rw same (x .may))
+      (names .how (a .pointer))
+
+  -- An entry of another pointer stays.
+  pub others-stay : (a : Accepted o list file lent out) (e : Entry) → List·Memᴰ e (counted (a .all .l)) → (e .pointer ≡ out .answer .pointer → ⊥)
+      → List·Memᴰ e (afterwards (newEntry o (out .answer .pointer)) (counted (a .all .l)))
+  others-stay a e listed other = Memᴰ·append-left _ (left-over (counted (a .all .l)) e (out .answer .pointer) listed other)
+
+  -- 9 exactly where all reads and the rule names none.
+  pub nine-none : out .answer .refusal .number ≡ 9 → (a : AllRead o list file lent) × (namedBy a ≡ 0)
+  unfolding loading
+  nine-none = go (finding o list file lent) refl
+    where
+      stores : (f : Found) (t : Bool) → pick t (loaded (refusal 0 0) (f .pointer) (listWritten (o .n) (listing (afterwards (newEntry o (f .pointer)) (f .entries))) list .bytes) (placed (f .pointer) (lent .new) file)) (loaded (listWritten (o .n) (listing (afterwards (newEntry o (f .pointer)) (f .entries))) list .answer) 0 list file) .answer .refusal .number ≡ 9 → ⊥
+      stores f true h = omega arith
+      stores f false h = list-write-number (listFault (o .n)) (outside (o .n)) (contractList (o .n)) (numbersOf (listing (afterwards (newEntry o (f .pointer)) (f .entries)))) list 9 (omega arith) (λ e. omega arith) h
+
+      go : (t : Attempt Found) → finding o list file lent ≡ t → settled o list file (lent .new) t .answer .refusal .number ≡ 9
+          → (a : AllRead o list file lent) × (namedBy a ≡ 0)
+      go (got f) e h = absurd (stores f (eqb (listWritten (o .n) (listing (afterwards (newEntry o (f .pointer)) (f .entries))) list .answer .number) 0) h)
+      go (stopped r) e h = stopped-nine r e h
+
+  pub none-nine : (a : AllRead o list file lent) → namedBy a ≡ 0 → out ≡ loaded (refusal 9 0) 0 list file
+  unfolding loading
+  none-nine a none = rw (read-found a, eq-eqb _ _ none)

@@ -1,0 +1,84 @@
+-- A change of priority alters the four bits of that one priority, and nothing else.
+use Prim.Native.Nat.{ℕ, _≤_}
+use mathlib.Core.Bool.{Bool, true, false, _||_}
+use mathlib.Core.List.{List}
+use mathlib.Core.Path.{_≡_, refl, _∙_}
+use native.Mathlib.Omega.{arith}
+use lib.Dec.{eqb, ltb}
+use lib.ListN.{length}
+use borrow.Author.Tests.{eqb-false, eq-eqb, ne-eqb, ltb-false, le-ltb}
+use Rattle.bits.specs.Bits.{cut, spread}
+use Rattle.bits.proofs.Cutting.{spread-cut}
+use Rattle.rows.specs.Row.{pick}
+use Rattle.rows.specs.Change.{withBox}
+use Rattle.records.specs.Answer.{accepted, denied}
+use Rattle.lists.specs.List.{gotList, listRead, listWritten}
+use Rattle.lists.specs.Entries.{attempted, withPriority, priorityPlace}
+use Rattle.lists.specs.declared.list.ContractList.{ContractList}
+use Rattle.lists.specs.declared.list.ListRead.{ListRead}
+use Rattle.lists.proofs.list.Laws.{list-write-read}
+use Rattle.lists.proofs.Entries.{length-recoded}
+use Rattle.lists.proofs.Kept.{list-kept, list-was-read}
+use Rattle.lists.proofs.Recoding.{list-recoded}
+use Rattle.selection.specs.Selection.{changing, changed, settled}
+use Rattle.selection.proofs.Refusals.{Told, reads, refuses, list-told}
+
+-- A change that may be made: the list reads, has the position, and the code is a priority.
+pub record MayChange (before : List ℕ) (n position code : ℕ) : Type 0 where
+  pub l : ContractList
+  pub reading : listRead n before ≡ gotList l
+  pub low : 1 ≤ position
+  pub high : position ≤ l .count
+  pub fits : code ≤ 15
+  pub defined : code ≡ 13 → ⊥
+
+-- It is made: only the four bits change.
+pub four-bits : {before : List ℕ} {n position code : ℕ} (m : MayChange before n position code)
+    → changing before n position code ≡ accepted (cut 8 8 (length before) (withBox (priorityPlace n (m .l) position) 4 code (spread 8 before)))
+unfolding changing
+four-bits {before} {n} {position} {code} m =
+    let long = list-was-read n before (m .l) (m .reading) .long in
+    let low = m .low in
+    let other : eqb position 0 ≡ false = ne-eqb position 0 (λ e. omega arith) in
+    rw (eq-eqb _ _ long, other, ne-eqb _ _ (m .defined), le-ltb _ _ (m .fits), m .reading, le-ltb _ _ (m .high))
+    (list-recoded n before (m .l) position code (m .reading) (m .low) (m .high) (m .fits) (m .defined) .0)
+
+-- Afterwards the record reads as the old list with that one priority changed.
+pub reads-changed : {before : List ℕ} {n position code : ℕ} (m : MayChange before n position code)
+    → listRead n (changing before n position code .bytes) ≡ gotList (withPriority position code (m .l))
+reads-changed {before} {n} {position} {code} m =
+    let list = list-recoded n before (m .l) position code (m .reading) (m .low) (m .high) (m .fits) (m .defined) .0 in
+    let eight : length (withPriority position code (m .l) .entries) ≡ 8 = length-recoded position code (m .l .entries) ∙ list-kept n before (m .l) (m .reading) .eight in
+    rw (four-bits m) (list-write-read n before _ (withPriority position code (m .l)) eight list)
+
+-- Bit for bit: those of the record afterwards.
+pub bits-changed : {before : List ℕ} {n position code : ℕ} (m : MayChange before n position code)
+    → spread 8 (changing before n position code .bytes) ≡ withBox (priorityPlace n (m .l) position) 4 code (spread 8 before)
+bits-changed {before} {n} {position} {code} m =
+    rw (four-bits m)
+    (spread-cut 8 (length before) _ (list-recoded n before (m .l) position code (m .reading) (m .low) (m .high) (m .fits) (m .defined) .1))
+
+-- Every change that is accepted is such a one.
+pub accepted-change : (before : List ℕ) (n position code : ℕ) → changing before n position code .answer .number ≡ 0 → MayChange before n position code
+unfolding changing
+accepted-change before n position code =
+    go (eqb (length before) 29) (eqb position 0) refl (eqb code 13) refl (ltb 15 code) refl (listRead n before) refl (list-told n before)
+  where
+    counted : (l : ContractList) → listRead n before ≡ gotList l → (eqb position 0 ≡ false) → (eqb code 13 ≡ false) → (ltb 15 code ≡ false)
+        → (t : Bool) → ltb (l .count) position ≡ t
+        → pick t (denied 11 0 before) (listWritten n (withPriority position code l) before) .answer .number ≡ 0
+        → MayChange before n position code
+    counted l same b c d true e h = absurd (omega arith)
+    counted l same b c d false e h =
+        let other : position ≡ 0 → ⊥ = eqb-false _ _ b in
+        record { l = l; reading = same; low = omega arith; high = ltb-false _ _ e; fits = ltb-false _ _ d; defined = eqb-false _ _ c }
+
+    go : (a b : Bool) → eqb position 0 ≡ b → (c : Bool) → eqb code 13 ≡ c → (d : Bool) → ltb 15 code ≡ d → (r : ListRead) → listRead n before ≡ r → Told r
+        → pick a (pick (b || c || d) (denied 11 0 before) (settled before (changed n position code before) (attempted r))) (denied 1 0 before) .answer .number ≡ 0
+        → MayChange before n position code
+    go false b eb c ec d ed r er told h = absurd (omega arith)
+    go true true eb c ec d ed r er told h = absurd (omega arith)
+    go true false eb true ec d ed r er told h = absurd (omega arith)
+    go true false eb false ec true ed r er told h = absurd (omega arith)
+    go true false eb false ec false ed r er (reads l same) h = counted l (er ∙ same) eb ec ed (ltb (l .count) position) refl (rw same at h)
+    go true false eb false ec false ed r er (refuses bad eight) h = absurd (bad (rw (ne-eqb _ _ bad) at h))
