@@ -189,10 +189,7 @@ pub fn read(bytes: &[u8], kind: u32) -> ContractRead
     ensures { λ r. ⌜ r ≡ contractRead kind (now (bytes .entry)) ⌝ }
 {
     if bytes.len() != BYTES {
-        return ContractRead::Refused(Refusal {
-            number: 1,
-            place: 0,
-        });
+        return ContractRead::Refused(Refusal::WRONG_LENGTH);
     }
     if !known(kind) {
         return ContractRead::Refused(Refusal {
@@ -477,10 +474,7 @@ pub fn write(bytes: &mut [u8], kind: u32, c: Contract) -> Refusal
     ensures { λ r. ⌜ record { answer = r; bytes = now (bytes .exit) } ≡ contractWritten kind c (now (bytes .entry)) ⌝ }
 {
     if bytes.len() != BYTES {
-        return Refusal {
-            number: 1,
-            place: 0,
-        };
+        return Refusal::WRONG_LENGTH;
     }
     if !known(kind) {
         return Refusal {
@@ -492,10 +486,7 @@ pub fn write(bytes: &mut [u8], kind: u32, c: Contract) -> Refusal
     let last = put_fields(&mut draft, kind, c);
     put::end(&draft, last, bytes);
     if last.why == 0 {
-        return Refusal {
-            number: 0,
-            place: 0,
-        };
+        return Refusal::NONE;
     }
     Refusal {
         number: last.why,

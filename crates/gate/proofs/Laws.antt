@@ -5,7 +5,7 @@ use mathlib.Core.Bool.{Bool, true, false, _&&_, _||_, not, or-false, or-assoc, t
 use mathlib.Core.Path.{_≡_, refl, sym, ap, _∙_}
 use native.Mathlib.Omega.{arith}
 use lib.Dec.{eqb, ltb}
-use lib.ListN.{length, getD, take, drop, replicate, length-drop, length-replicate}
+use lib.ListN.{length, getD, take, drop, length-drop, length-replicate}
 use lib.Seq.{ext-getD, length-take-le}
 use borrow.Author.Tests.{eqb-true, eq-eqb, ltb-false, le-ltb}
 use Rattle.bits.specs.Bits.{spread, cut, join, leading, zeros}
@@ -241,13 +241,3 @@ found-joined a b c e f none none′ =
     go true false z f g = absurd (true≢false (sym (f refl)))
     go false true z f g = rw (g refl)
     go false false z f g = refl
-
--- Document 01, P11: the first byte from 05h to 07h, the rest equal, takes the write 02h.
-p11 : finding (5 ∷ replicate 28 0) (7 ∷ replicate 28 0) (replicate 29 0) ≡ accepted (2 ∷ replicate 28 0)
-unfolding finding
-p11 = refl
-
--- P12: from 05h to 06h bit 7 would have to fall.
-p12 : finding (5 ∷ replicate 28 0) (6 ∷ replicate 28 0) (replicate 29 0) ≡ denied 10 7 (replicate 29 0)
-unfolding finding
-p12 = refl

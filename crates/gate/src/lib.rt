@@ -12,37 +12,22 @@ use records::Refusal;
 // The most writes that one call takes.
 pub const MOST: usize = 15;
 
-const ACCEPTED: Refusal = Refusal {
-    number: 0,
-    place: 0,
-};
-
-const WRONG_LENGTH: Refusal = Refusal {
-    number: 1,
-    place: 0,
-};
-
-const TOO_MANY: Refusal = Refusal {
-    number: 11,
-    place: 0,
-};
-
 // Raises in the lent record every bit that is one in a lent write.
 pub fn apply(record: &mut [u8], writes: &[u8]) -> Refusal
     ensures { λ r. ⌜ record { answer = r; bytes = now («record» .exit) } ≡ applying (now («record» .entry)) (now (writes .entry)) ⌝ }
 {
     if record.len() != BYTES {
-        return WRONG_LENGTH;
+        return Refusal::WRONG_LENGTH;
     }
     if writes.len() % BYTES != 0 {
-        return WRONG_LENGTH;
+        return Refusal::WRONG_LENGTH;
     }
     let n = writes.len() / BYTES;
     if MOST < n {
-        return TOO_MANY;
+        return Refusal::OUTSIDE_LIMITS;
     }
     raise_all(record, writes, n);
-    ACCEPTED
+    Refusal::NONE
 }
 
 // The n writes, one after the other.
@@ -74,13 +59,13 @@ pub fn find(present: &[u8], wanted: &[u8], write: &mut [u8]) -> Refusal
     ensures { λ r. ⌜ record { answer = r; bytes = now (write .exit) } ≡ finding (now (present .entry)) (now (wanted .entry)) (now (write .entry)) ⌝ }
 {
     if present.len() != BYTES {
-        return WRONG_LENGTH;
+        return Refusal::WRONG_LENGTH;
     }
     if wanted.len() != BYTES {
-        return WRONG_LENGTH;
+        return Refusal::WRONG_LENGTH;
     }
     if write.len() != BYTES {
-        return WRONG_LENGTH;
+        return Refusal::WRONG_LENGTH;
     }
     let fall = first_fall(present, wanted);
     if fall < BITS {
@@ -90,7 +75,7 @@ pub fn find(present: &[u8], wanted: &[u8], write: &mut [u8]) -> Refusal
         };
     }
     keep_only(wanted, present, write);
-    ACCEPTED
+    Refusal::NONE
 }
 
 // The first bit that is one in present and zero in wanted, or the end.
@@ -122,16 +107,16 @@ pub fn join(a: &[u8], b: &[u8], write: &mut [u8]) -> Refusal
     ensures { λ r. ⌜ record { answer = r; bytes = now (write .exit) } ≡ joining (now (a .entry)) (now (b .entry)) (now (write .entry)) ⌝ }
 {
     if a.len() != BYTES {
-        return WRONG_LENGTH;
+        return Refusal::WRONG_LENGTH;
     }
     if b.len() != BYTES {
-        return WRONG_LENGTH;
+        return Refusal::WRONG_LENGTH;
     }
     if write.len() != BYTES {
-        return WRONG_LENGTH;
+        return Refusal::WRONG_LENGTH;
     }
     both(a, b, write);
-    ACCEPTED
+    Refusal::NONE
 }
 
 // The bits that are one in a or in b.

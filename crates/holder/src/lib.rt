@@ -390,10 +390,7 @@ fn read_area(bytes: &[u8]) -> HolderRead
     }
     let holder = fields.value;
     HolderRead {
-        refusal: Refusal {
-            number: 0,
-            place: 0,
-        },
+        refusal: Refusal::NONE,
         holder,
     }
 }
@@ -405,10 +402,7 @@ pub fn write(bytes: &mut [u8], h: Holder) -> Refusal
     if is_area(bytes.len()) {
         return write_area(bytes, h);
     }
-    Refusal {
-        number: 1,
-        place: 0,
-    }
+    Refusal::WRONG_LENGTH
 }
 
 fn write_area(bytes: &mut [u8], h: Holder) -> Refusal
@@ -420,10 +414,7 @@ fn write_area(bytes: &mut [u8], h: Holder) -> Refusal
     let last = put_fields(&mut draft, room, h);
     put::end(&draft, last, bytes);
     if last.why == 0 {
-        return Refusal {
-            number: 0,
-            place: 0,
-        };
+        return Refusal::NONE;
     }
     Refusal {
         number: last.why,

@@ -214,10 +214,7 @@ pub fn read(bytes: &[u8], n: u32) -> ListRead
         return refused(last.why, last.at);
     }
     ListRead {
-        refusal: Refusal {
-            number: 0,
-            place: 0,
-        },
+        refusal: Refusal::NONE,
         list,
     }
 }
@@ -331,26 +328,17 @@ pub fn write(bytes: &mut [u8], n: u32, list: ContractList) -> Refusal
     ensures { λ r. ⌜ record { answer = r; bytes = now (bytes .exit) } ≡ listWritten n list (now (bytes .entry)) ⌝ }
 {
     if bytes.len() != BYTES {
-        return Refusal {
-            number: 1,
-            place: 0,
-        };
+        return Refusal::WRONG_LENGTH;
     }
     if outside(n) {
-        return Refusal {
-            number: 11,
-            place: 0,
-        };
+        return Refusal::OUTSIDE_LIMITS;
     }
     let mut draft = [0u64; 9];
     let end = put_list(&mut draft, n, list);
     let last = rules::obeyed(end, at_fault(list, n));
     put::end(&draft, last, bytes);
     if last.why == 0 {
-        return Refusal {
-            number: 0,
-            place: 0,
-        };
+        return Refusal::NONE;
     }
     Refusal {
         number: last.why,

@@ -93,10 +93,7 @@ pub fn read(bytes: &[u8], s: u32) -> SpecialRead
         return refused(last.why, last.at);
     }
     SpecialRead {
-        refusal: Refusal {
-            number: 0,
-            place: 0,
-        },
+        refusal: Refusal::NONE,
         list,
     }
 }
@@ -172,26 +169,17 @@ pub fn write(bytes: &mut [u8], s: u32, list: SpecialList) -> Refusal
     ensures { λ r. ⌜ record { answer = r; bytes = now (bytes .exit) } ≡ specialWritten s list (now (bytes .entry)) ⌝ }
 {
     if bytes.len() != BYTES {
-        return Refusal {
-            number: 1,
-            place: 0,
-        };
+        return Refusal::WRONG_LENGTH;
     }
     if SpecialList::MOST < s {
-        return Refusal {
-            number: 11,
-            place: 0,
-        };
+        return Refusal::OUTSIDE_LIMITS;
     }
     let mut draft = [0u64; 9];
     let end = put_list(&mut draft, list);
     let last = rules::obeyed(end, at_fault(list, s));
     put::end(&draft, last, bytes);
     if last.why == 0 {
-        return Refusal {
-            number: 0,
-            place: 0,
-        };
+        return Refusal::NONE;
     }
     Refusal {
         number: last.why,

@@ -1,0 +1,127 @@
+// select, priority and load.
+use crate::answer;
+use crate::scan;
+use crate::scan::BYTES;
+use crate::scan::Scan;
+use loading::Order;
+use selection::Selected;
+
+struct Given {
+    value: Order,
+    last: Scan,
+}
+
+pub fn select(line: &[u8], from: Scan, list: &[u8], out: &mut [u8]) -> usize {
+    let mut space = [0u8; BYTES];
+    let second = scan::bytes(line, from, &mut space);
+    let n = scan::number(line, second);
+    let day = scan::number(line, n);
+    let operator = scan::number(line, day);
+    if !scan::ends(line, operator) {
+        return 0;
+    }
+    let k = second.number as usize;
+    let file = &space[..k];
+    let selected = selection::select(list, file, n.number, day.number, operator.number);
+    answer_selected(out, selected, selection::part(file, selected))
+}
+
+fn answer_selected(out: &mut [u8], selected: Selected, part: &[u8]) -> usize {
+    let end = answer::refusal(out, selected.refusal);
+    let last = answer::numbers(
+        out,
+        end,
+        &[selected.position, selected.pointer, selected.priority],
+    );
+    answer::bytes(out, last, part)
+}
+
+pub fn priority(line: &[u8], from: Scan, list: &mut [u8], out: &mut [u8]) -> usize {
+    let n = scan::number(line, from);
+    let position = scan::number(line, n);
+    let code = scan::number(line, position);
+    if !scan::ends(line, code) {
+        return 0;
+    }
+    let refusal = selection::change_priority(list, n.number, position.number, code.number);
+    answer::written(out, refusal, list)
+}
+
+pub fn load(line: &[u8], from: Scan, list: &mut [u8], out: &mut [u8]) -> usize {
+    let mut file = [0u8; BYTES];
+    let mut special = [0u8; BYTES];
+    let second = scan::bytes(line, from, &mut file);
+    let third = scan::bytes(line, second, &mut special);
+    let n = second.number as usize;
+    let k = third.number as usize;
+    load_behind(line, third, list, &mut file[..n], &special[..k], out)
+}
+
+// The request behind its first three parts.
+fn load_behind(
+    line: &[u8],
+    from: Scan,
+    list: &mut [u8],
+    file: &mut [u8],
+    special: &[u8],
+    out: &mut [u8],
+) -> usize {
+    let mut journal = [0u8; BYTES];
+    let mut records = [0u8; BYTES];
+    let mut new = [0u8; BYTES];
+    let fourth = scan::bytes(line, from, &mut journal);
+    let fifth = scan::bytes(line, fourth, &mut records);
+    let sixth = scan::bytes(line, fifth, &mut new);
+    let given = take_order(line, sixth);
+    if !scan::ends(line, given.last) {
+        return 0;
+    }
+    let j = fourth.number as usize;
+    let r = fifth.number as usize;
+    let n = sixth.number as usize;
+    let loaded = loading::load(
+        list,
+        file,
+        special,
+        &journal[..j],
+        &records[..r],
+        &new[..n],
+        given.value,
+    );
+    let end = answer::refusal(out, loaded.refusal);
+    let pointer = answer::number(out, end, loaded.pointer);
+    let last = answer::bytes(out, pointer, list);
+    answer::bytes(out, last, file)
+}
+
+fn take_order(line: &[u8], from: Scan) -> Given {
+    let n = scan::number(line, from);
+    let c = scan::number(line, n);
+    let s = scan::number(line, c);
+    let day = scan::number(line, s);
+    let minute = scan::number(line, day);
+    let hours = scan::number(line, minute);
+    let key = scan::number(line, hours);
+    let kind = scan::number(line, key);
+    let priority = scan::number(line, kind);
+    let has_network = scan::at_most(line, priority, 1);
+    let network = scan::number(line, has_network);
+    let counter = scan::at_most(line, network, 1);
+    Given {
+        value: Order {
+            n: n.number,
+            c: c.number,
+            s: s.number,
+            day: day.number,
+            minute: minute.number,
+            hours: hours.number,
+            key: key.number,
+            kind: kind.number,
+            priority: priority.number,
+            has_network: has_network.number == 1,
+            network: network.number,
+            counter: counter.number == 1,
+        },
+        last: counter,
+    }
+}

@@ -1,0 +1,212 @@
+-- Samples: what the papers give as examples, one list of statements about the definitions. Document 01, "Samples at the edges" and
+-- "Slips that look right"; 004 sections 7.2.3, 7.7 and 7.8.
+use Prim.Native.Nat.{ℕ, zero, suc, _+_, _*_, _/_, _%_, _^_}
+use mathlib.Core.Bool.{Bool, true, false, _&&_}
+use mathlib.Core.List.{List, [], _∷_, _++_, map}
+use mathlib.Core.Path.{_≡_}
+use lib.Dec.{leb}
+use lib.ListN.{replicate}
+use Rattle.bits.specs.Bits.{bitsOf, cut}
+use Rattle.rows.specs.Walk.{Outcome, done, refused, read}
+use Rattle.rows.specs.table.Contract.{contract50}
+use Rattle.records.specs.Answer.{Written, refusal, accepted, denied}
+use Rattle.records.specs.Event.{eventOf, eventRead}
+use Rattle.records.specs.declared.event.Event.{Event}
+use Rattle.records.specs.declared.event.EventRead.{EventRead}
+use Rattle.records.specs.declared.event.EventRead.the-variants.{Read, Refused}
+use Rattle.lists.specs.List.{gotList, noList, listRead}
+use Rattle.lists.specs.Entries.{listing}
+use Rattle.lists.specs.declared.list.Entry.{Entry}
+use Rattle.lists.specs.declared.list.ListRead.{ListRead}
+use Rattle.selection.specs.Eligible.{usable, nobody, chosenAt, choose}
+use Rattle.selection.specs.declared.Selected.{Selected}
+use Rattle.loading.specs.Blocking.{moment, blocks}
+use Rattle.loading.specs.Place.{place, afterwards}
+use Rattle.loading.specs.Loading.{Lent, loaded, loading, Outcome as Left}
+use Rattle.loading.specs.declared.Order.{Order}
+use Rattle.gate.specs.Writes.{finding}
+
+-- The last n bytes of a number, in front of some.
+abbrev bytesOn : ℕ → ℕ → List ℕ → List ℕ
+bytesOn zero x bytes = bytes
+bytesOn (suc n) x bytes = bytesOn n (x / 256) (x % 256 ∷ bytes)
+
+-- A record as the papers write it: digits, and so many zero digits behind them.
+infix 30 _and_zeros
+abbrev pub _and_zeros : ℕ → ℕ → List ℕ
+_and_zeros digits n = bytesOn 29 (digits * 16 ^ n) []
+
+-- An entry without a network.
+abbrev pub entry : ℕ → ℕ → ℕ → ℕ → Entry
+entry key kind priority pointer =
+    record { bitmap = 6; network = 0; key = key; kind = kind; priority = priority; pointer = pointer }
+
+-- A record that begins with an event's date, minute and bitmap, zeros behind.
+abbrev eventBytes : ℕ → ℕ → ℕ → List ℕ
+eventBytes date minute bitmap = cut 8 8 29 (bitsOf 14 date ++ (bitsOf 11 minute ++ bitsOf 28 bitmap))
+
+-- An event that names a pointer, element [25].
+abbrev naming : ℕ → ℕ → ℕ → Event
+naming pointer date minute = eventOf (date ∷ minute ∷ 2 ^ 25 ∷ (replicate 25 0 ++ (pointer ∷ [])))
+
+-- The bits of a 50h contract whose head has provider, tariff and status, with a bitmap of groups: all else zeros.
+abbrev urbanBits : ℕ → List Bool
+urbanBits groups =
+    bitsOf 7 0b1100011 ++ (bitsOf (8 + 16 + 8) 0 ++ (bitsOf (14 + 14 + 16 + 2) 0 ++ (bitsOf 16 groups ++ bitsOf 131 0)))
+
+-- The bits that a reading takes, 0 where it refuses.
+abbrev extent : Outcome (List ℕ) → ℕ
+extent (done vals end) = end
+extent (refused n at i) = 0
+
+-- The pointer that the rule names on a card of n records, c of them with counter, where no event blocks any.
+abbrev named : ℕ → ℕ → Bool → List Entry → ℕ
+named n c counter es = place (λ pointer. false) n c counter es
+
+-- The pointers listed once a contract is there, whatever the rest of its entry.
+abbrev listedAfter : ℕ → List Entry → List ℕ
+listedAfter pointer es = map (λ (e : Entry). e .pointer) (afterwards (entry 0 0 0 pointer) es)
+
+pub data Case : Type 0 where
+  -- on a card of n records, the list reads as this
+  listReads : (n : ℕ) → List ℕ → ListRead → Case
+  -- loading leaves this
+  loads : Order → List ℕ → List ℕ → Lent → Left → Case
+  -- on a card of n records, c of them with counter, none blocked, a new contract goes to the pointer, and these are then listed
+  places : (n c : ℕ) → (counter : Bool) → List Entry → (pointer : ℕ) → List ℕ → Case
+  -- a 50h record with these groups has so many bits
+  urbanEnds : (groups : ℕ) → (bits : ℕ) → Case
+  -- an event with this date, minute and bitmap, zeros behind, reads as this
+  eventReads : (date minute bitmap : ℕ) → EventRead → Case
+  -- the write from present to wanted, in a record that was so before
+  finds : (present wanted before : List ℕ) → Written → Case
+  -- with so many hours, an event of this day and minute blocks at that day and minute, or not
+  blocksAt : (hours day minute nowDay nowMinute : ℕ) → Bool → Case
+  -- of the entries that a test accepts, this one is chosen
+  chooses : (Entry → Bool) → List Entry → Selected → Case
+
+abbrev pub Holds : Case → Type 0
+Holds (listReads n bytes answer) = listRead n bytes ≡ answer
+Holds (loads order list file lent left) = loading order list file lent ≡ left
+Holds (places n c counter es pointer listed) = (named n c counter es ≡ pointer) × (listedAfter pointer es ≡ listed)
+Holds (urbanEnds groups bits) = extent (read contract50 (urbanBits groups)) ≡ bits
+Holds (eventReads date minute bitmap answer) = eventRead (eventBytes date minute bitmap) ≡ answer
+Holds (finds present wanted before answer) = finding present wanted before ≡ answer
+Holds (blocksAt hours day minute nowDay nowMinute answer) = blocks (moment nowDay nowMinute) hours 1 (naming 1 day minute) ≡ answer
+Holds (chooses test es answer) = choose test 1 nobody es ≡ answer
+
+-- P2's list, and that of 004's card of four.
+abbrev list2 : List Entry
+list2 = entry 0 0x10 6 1 ∷ entry 2 0x10 9 2 ∷ entry 2 0x05 15 3 ∷ []
+
+-- 004's card of eight: pointers listed 1 2 5 3 6 7 8, by the priorities of 5 to 8.
+abbrev list7 : ℕ → ℕ → ℕ → ℕ → List Entry
+list7 five six seven eight =
+    entry 0 0x10 6 1
+    ∷ entry 0 0x12 12 2
+    ∷ entry 1 0x12 five 5
+    ∷ entry 2 0x10 9 3
+    ∷ entry 2 0x05 six 6
+    ∷ entry 2 0x05 seven 7
+    ∷ entry 2 0x05 eight 8
+    ∷ []
+
+abbrev list8 : List Entry
+list8 = list7 15 15 15 15 ++ (entry 2 0x05 15 4 ∷ [])
+
+-- P3's order, on a day, with a counter or without.
+abbrev order3 : Bool → Order
+order3 counter =
+    record {
+      n = 4;
+      c = 4;
+      s = 0;
+      day = 100;
+      minute = 60;
+      hours = 24;
+      key = 2;
+      kind = 0x42;
+      priority = 6;
+      «has_network» = false;
+      network = 0;
+      counter = counter;
+    }
+
+abbrev lent3 : Lent
+lent3 = record { special = 0 and 58 zeros; journal = []; records = []; new = 0 and 58 zeros }
+
+abbrev left3 : Left
+left3 = loaded (refusal 0 0) 4 (0x4C020C1C42122C40BE3C484C4 and 33 zeros) (replicate 87 255 ++ replicate 29 0)
+
+unfoldable pub samples : List Case
+samples =
+    -- P1 list of zeros: count 0.
+    listReads 4 (0 and 58 zeros) (gotList (listing []))
+    -- P2 N = 4, list 3C020C1C42122C40BE3 and 39 zero digits: entries (key, type, priority, pointer) 0 10h 6 1; 2 10h 9 2; 2 05h 15 3.
+    ∷ listReads 4 (0x3C020C1C42122C40BE3 and 39 zeros) (gotList (listing list2))
+    -- P3 load on P2's card, C = 4, entry 2 42h 6 with a 42h record of zeros, no events: pointer 4, list
+    -- 4C020C1C42122C40BE3C484C4 and 33 zero digits. Here with a contract file of bytes FFh before.
+    ∷ loads (order3 true) (0x3C020C1C42122C40BE3 and 39 zeros) (replicate 116 255) lent3 left3
+    ∷ loads (order3 false) (0x3C020C1C42122C40BE3 and 39 zeros) (replicate 116 255) lent3 left3
+    -- P4 N = 8, C = 4, pointers listed 1 2 5 3 6 7 8 4, with 4 to 8 erasable. Without counter: pointer 5, then 1 2 3 6 7 8 4 5.
+    ∷ places 8 4 false list8 5 (1 ∷ 2 ∷ 3 ∷ 6 ∷ 7 ∷ 8 ∷ 4 ∷ 5 ∷ [])
+    -- P5 with counter: pointer 4.
+    ∷ places 8 4 true list8 4 (1 ∷ 2 ∷ 5 ∷ 3 ∷ 6 ∷ 7 ∷ 8 ∷ 4 ∷ [])
+    -- P6 list 1C021A1 and 51 zero digits: refusal 4, place 7.
+    ∷ listReads 4 (0x1C021A1 and 51 zeros) (noList (refusal 4 7))
+    -- P7 50h with head bitmap 1100011 and groups D843h, 810Dh, 0030h: 207, 198, 142 bits.
+    ∷ urbanEnds 0xD843 207
+    ∷ urbanEnds 0x810D 198
+    ∷ urbanEnds 0x0030 142
+    -- P8 event with only element [17], date and minute 0: refusal 2, place 53.
+    ∷ eventReads 0 0 (2 ^ 17) (Refused (refusal 2 53))
+    -- P9 event minute 1439 read; 1440 refusal 4, place 14.
+    ∷ eventReads 0 1439 0 (Read (eventOf (0 ∷ 1439 ∷ [])))
+    ∷ eventReads 0 1440 0 (Refused (refusal 4 14))
+    -- P10 list of zeros but a last byte 01h: 5, place 231.
+    ∷ listReads 4 (0x01 and 0 zeros) (noList (refusal 5 231))
+    -- P11 gate, first byte 05h to 07h, rest equal: write 02h.
+    ∷ finds (0x05 and 56 zeros) (0x07 and 56 zeros) (replicate 29 255) (accepted (0x02 and 56 zeros))
+    -- P12 05h to 06h: 10, place 7.
+    ∷ finds (0x05 and 56 zeros) (0x06 and 56 zeros) (replicate 29 255) (denied 10 7 (replicate 29 255))
+    -- P13 one hour, event day 100 minute 60: blocked at minute 119, free at 120.
+    ∷ blocksAt 1 100 60 100 119 true
+    ∷ blocksAt 1 100 60 100 120 false
+    -- Slip: treating "oldest" as the lowest pointer: with pointers listed 1 2 7 3 5 6 8 4 and 5 to 8 erasable, the plain one to
+    -- take is 7.
+    ∷ places 8 4 false
+    (entry 0 0x10 6 1
+    ∷ entry 0 0x10 6 2
+    ∷ entry 2 0x05 15 7
+    ∷ entry 0 0x10 6 3
+    ∷ entry 2 0x05 15 5
+    ∷ entry 2 0x05 15 6
+    ∷ entry 2 0x05 15 8
+    ∷ entry 0 0x10 6 4
+    ∷ [])
+    7
+    (1 ∷ 2 ∷ 3 ∷ 5 ∷ 6 ∷ 8 ∷ 4 ∷ 7 ∷ [])
+    -- Slip: a wrapping or absolute difference for event age, so that a clock set back frees a position.
+    ∷ blocksAt 1 100 60 98 60 true
+    -- 004, 7.2.3: the fifth of the list, contract 6, is read first: it and the sixth have the highest priority, and it is before the
+    -- sixth. 01 overrules: records of types 10h, 12h and 05h do not read, and no such entry is eligible. The test here is the rest:
+    -- a usable priority and an accepted key.
+    ∷ chooses (λ e. usable e && leb (e .key) 2)
+    (entry 0 0x10 6 2
+    ∷ entry 0 0x12 12 4
+    ∷ entry 1 0x12 6 5
+    ∷ entry 2 0x10 9 3
+    ∷ entry 2 0x05 2 6
+    ∷ entry 2 0x05 2 7
+    ∷ entry 2 0x05 15 8
+    ∷ [])
+    (chosenAt 5 (entry 2 0x05 2 6))
+    -- 004, 7.7, example 1, and 7.8, example 1: full list, without counter: contract 5, position 8. That is P4.
+    -- 7.7, example 2: a card of 4 contracts with counter, list not full: contract 4, position 4. Where the list is not full, 7.7 only
+    -- adds behind the last entry. 01 overrules: an entry of the pointer that is taken goes there too, as in 7.8, example 2.
+    ∷ places 4 4 true list2 4 (1 ∷ 2 ∷ 3 ∷ 4 ∷ [])
+    -- 7.8, example 2: list not full, without counter: contract 6, position 7.
+    ∷ places 8 4 false (list7 6 15 15 15) 6 (1 ∷ 2 ∷ 5 ∷ 3 ∷ 7 ∷ 8 ∷ 6 ∷ [])
+    -- 7.8, example 3: the same with none erasable: contract 4, which could have a counter, position 8.
+    ∷ places 8 4 false (list7 6 12 6 6) 4 (1 ∷ 2 ∷ 5 ∷ 3 ∷ 6 ∷ 7 ∷ 8 ∷ 4 ∷ [])
+    ∷ []

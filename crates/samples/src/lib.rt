@@ -1,0 +1,1 @@
+// Samples of the papers, and that each contract allows one answer: laws only, no code.

@@ -1,0 +1,148 @@
+"""Makes the vectors: requests from a fixed seed and the model's answers to them.
+
+python3 make.py [STDIN STDOUT]
+"""
+
+import sys
+from collections import Counter
+from pathlib import Path
+from random import Random
+
+import cards
+import lines
+import model
+import records
+
+HERE = Path(__file__).resolve().parent
+DEFAULT_STDIN = HERE / "../crates/replay/stdin"
+DEFAULT_STDOUT = HERE / "../crates/replay/stdout"
+SEED = 1997
+
+# The numbers that document 01 lets each operation answer. 0 is accepted. Where a number is missing, the layout leaves
+# no way to it: an Environment (121 bits at most) and a special event list (176) always fit, so they have no 2; an
+# Environment has no range, so it has no 4; 5 is of reading and 7 of writing; 8, 9 and 10 belong to one operation each.
+POSSIBLE = {
+    "env.read": {0, 1, 3, 5},
+    "env.write": {0, 1, 3, 7},
+    "holder.read": {0, 1, 2, 4, 5},
+    "holder.write": {0, 1, 2, 4, 7},
+    "event.read": {0, 1, 2, 4, 5},
+    "event.write": {0, 1, 2, 4, 7},
+    "special.read": {0, 1, 4, 5, 6, 11},
+    "special.write": {0, 1, 4, 6, 7, 11},
+    "list.read": {0, 1, 2, 4, 5, 6, 11},
+    "list.write": {0, 1, 2, 4, 6, 7, 11},
+    "contract.read": {0, 1, 2, 3, 4, 5},
+    "contract.write": {0, 1, 2, 3, 4, 7},
+    "select": {0, 1, 2, 4, 5, 6, 8, 11},
+    "priority": {0, 1, 2, 4, 5, 6, 11},
+    "load": {0, 1, 2, 3, 4, 5, 6, 9, 11},
+    "apply": {0, 1, 11},
+    "find": {0, 1, 10},
+    "join": {0, 1},
+}
+
+
+def ask(request):
+    return model.answer(request.encode())
+
+
+def check_samples():
+    """P1 to P13 and the second slip, as document 01 gives them."""
+    zeros, p2 = "0" * 58, cards.P2_LIST
+    assert ask(f"list.read {zeros} 4") == "0 0 0" + " 0" * 48                                              # P1
+    assert ask(f"list.read {p2} 4") == "0 0 3 6 0 0 16 6 1 6 0 2 16 9 2 6 0 2 5 15 3" + " 0" * 30          # P2
+    loaded = ask(cards.load_line(contract_list=p2, counters=4, key=2, priority=6)).split(" ")
+    assert loaded[:4] == ["0", "0", "4", "4C020C1C42122C40BE3C484C4" + "0" * 33]                           # P3
+    assert loaded_pointers((1, 2, 5, 3, 6, 7, 8, 4), range(4, 9), 0) == (5, [1, 2, 3, 6, 7, 8, 4, 5])      # P4
+    assert loaded_pointers((1, 2, 5, 3, 6, 7, 8, 4), range(4, 9), 1)[0] == 4                               # P5
+    assert ask("list.read 1C021A1" + "0" * 51 + " 4") == "4 7"                                             # P6
+    assert [contract_bits(groups) for groups in (0xD843, 0x810D, 0x0030)] == [207, 198, 142]               # P7
+    assert ask(f"event.read {cards.record(cards.bits((0, 25), (1 << 17, 28)))}") == "2 53"                 # P8
+    assert ask(f"event.read {cards.event(0, 1439)}") == "0 0 0 1439" + " 0" * 33                           # P9
+    assert ask(f"event.read {cards.event(0, 1440)}") == "4 14"
+    assert ask(f"list.read {zeros[2:]}01 4") == "5 231"                                                    # P10
+    assert ask(f"find 05{zeros[2:]} 07{zeros[2:]} {zeros}") == f"0 0 02{zeros[2:]}"                        # P11
+    assert ask(f"find 05{zeros[2:]} 06{zeros[2:]} {zeros}") == f"10 7 {zeros}"                             # P12
+    assert ask(cards.quiet_line(1, (100, 60), (100, 119))).startswith("9 0 0 ")                            # P13
+    assert ask(cards.quiet_line(1, (100, 60), (100, 120))).startswith("0 0 1 ")
+    assert loaded_pointers((1, 2, 7, 3, 5, 6, 8, 4), range(5, 9), 0)[0] == 7                               # slip
+
+
+def loaded_pointers(listed, erasable, needs_counter):
+    """The pointer taken and the pointers of the new list."""
+    refusal, place, pointer, new_list, _ = ask(cards.p4_line(listed, erasable, needs_counter)).split(" ")
+    assert (refusal, place) == ("0", "0")
+    numbers = model.read_contract_list(bytes.fromhex(new_list), 8)
+    return int(pointer), [entry.pointer for entry in model.contract_entries(numbers)]
+
+
+def contract_bits(groups):
+    """How many bits a 50h contract takes: the place of a one that is put in the last bit but belongs to no field."""
+    boxes = cards.bits((0b1100011, 7), (0, 8 + 16 + 8), (0, 14 + 14 + 16 + 2), (groups, 16))
+    refusal, place = ask(f"contract.read {cards.record(boxes.ljust(232, '1'))} 80").split(" ")
+    assert refusal == "5"
+    return int(place)
+
+
+def drawn_requests():
+    """In order, each once."""
+    random = Random(SEED)
+    return list(dict.fromkeys([*cards.requests(random), *records.requests(random)]))
+
+
+def check_round_trips(requests):
+    """What a read gives, written, is the record that was read."""
+    for request in requests:
+        name, record, *parameters = request.split(" ")
+        answer = ask(request)
+        if name.endswith(".read") and answer.startswith("0 0 "):
+            writing = " ".join([name.replace("read", "write"), record, *parameters, answer.removeprefix("0 0 ")])
+            assert ask(writing) == f"0 0 {record}", request
+
+
+def count_pairs(requests, answers):
+    """How often each operation gave each number; bad lines are no operation's."""
+    pairs = Counter()
+    for request, answer in zip(requests, answers):
+        name = "! line" if answer == model.BAD_LINE else request.split(b" ")[0].decode()
+        number = "! line" if answer == model.BAD_LINE else int(answer.split(" ")[0])
+        pairs[name, number] += 1
+    return pairs
+
+
+def check_pairs(pairs):
+    given = {name: {number for other, number in pairs if other == name} for name in POSSIBLE}
+    assert given == POSSIBLE, {name: given[name] ^ POSSIBLE[name] for name in POSSIBLE if given[name] != POSSIBLE[name]}
+
+
+def print_counts(pairs):
+    """A table: a line for each operation, a column for each refusal number."""
+    numbers = [*range(12), "! line"]
+    print("| | all | " + " | ".join(map(str, numbers)) + " |")
+    print("|---" * (2 + len(numbers)) + "|")
+    for name in [*POSSIBLE, "! line"]:
+        print_row(name, [pairs[name, number] for number in numbers])
+    print_row("all", [sum(pairs[name, number] for name in [*POSSIBLE, "! line"]) for number in numbers])
+
+
+def print_row(name, counts):
+    print(f"| {name} | {sum(counts)} | " + " | ".join(str(count or "") for count in counts) + " |")
+
+
+def main(stdin=DEFAULT_STDIN, stdout=DEFAULT_STDOUT):
+    check_samples()
+    drawn = drawn_requests()
+    check_round_trips(drawn)
+    requests = [line.encode() for line in drawn] + list(lines.requests())
+    answers = [model.answer(request) for request in requests]
+    pairs = count_pairs(requests, answers)
+    check_pairs(pairs)
+    Path(stdin).write_bytes(b"\n".join(requests))          # the last line lacks its line feed
+    Path(stdout).write_text("".join(answer + "\n" for answer in answers))
+    print(f"{len(requests)} requests")
+    print_counts(pairs)
+
+
+if __name__ == "__main__":
+    main(*sys.argv[1:])
