@@ -5,10 +5,10 @@ use mathlib.Core.Bool.{Bool, true, false}
 use mathlib.Core.Path.{_≡_, refl, sym, ap, _∙_}
 use native.Mathlib.Omega.{arith}
 use native.Mathlib.Numerals.{add-one}
-use lib.Dec.{eqb}
-use lib.ListN.{length, getD, set, take, length-append, length-take, List·getD-append, List·getD-eq-default}
-use lib.Seq.{getD-append-seam, take-suc, getD-take}
-use borrow.Author.Tests.{ne-eqb, lt-ltb}
+use lib.Dec.{eqb, ltb}
+use lib.ListN.{length, getD, set, take, drop, drop-of-length-le, length-append, length-take, List·getD-append, List·getD-eq-default}
+use lib.Seq.{drop-cons, getD-append-seam, take-suc, getD-take}
+use borrow.Author.Tests.{ne-eqb, lt-ltb, ltb-true, ltb-false}
 use Rattle.rows.specs.Row.{pick}
 use Rattle.records.specs.Answer.{named}
 use Rattle.lists.specs.List.{entryOf}
@@ -81,6 +81,31 @@ module _ {A : Type 0} (d : A) where
   named-set i (suc k) (suc n) l a e h =
       let inside : i < length l = omega arith in
       rw (List·getD-append l (a ∷ []) d i inside, named-set (suc i) k n l a (omega arith) (omega arith))
+
+  -- By name they are the list.
+  named-take : (i n : ℕ) (l : List A) → length l ≤ i + n → take (length l - i) (named d i n l) ≡ drop i l
+  named-take i zero l h =
+      let none : length l - i ≡ 0 = omega arith in
+      let short : length l ≤ i = omega arith in
+      rw none (sym (drop-of-length-le l short))
+  named-take i (suc n) l h = go (ltb i (length l)) refl (named-take (suc i) n l (omega arith))
+    where
+      go : (t : Bool) → ltb i (length l) ≡ t → take (length l - suc i) (named d (suc i) n l) ≡ drop (suc i) l
+          → take (length l - i) (getD l i d ∷ named d (suc i) n l) ≡ drop i l
+      go true e rest =
+          let inside : i < length l = ltb-true _ _ e in
+          let up : length l - i ≡ suc (length l - suc i) = omega arith in
+          rw (up, drop-cons l i d inside, rest)
+      go false e rest =
+          let past : length l ≤ i = ltb-false _ _ e in
+          let none : length l - i ≡ 0 = omega arith in
+          rw none (sym (drop-of-length-le l past))
+
+-- The counted entries of a list of some are these.
+pub counted-listing : (es : List Entry) → length es ≤ 8 → counted (listing es) ≡ es
+counted-listing es h =
+    let all : length es - 0 ≡ length es = omega arith in
+    rw all at (named-take (entryOf [] 0) 0 8 es (omega arith))
 
 -- A list that is not full gets an entry more behind the others.
 pub appended-listing : (e : Entry) (es : List Entry) → length es < 8 → appended e (listing es) ≡ listing (es ++ (e ∷ []))

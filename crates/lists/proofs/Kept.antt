@@ -7,7 +7,7 @@ use native.Mathlib.Omega.{arith}
 use lib.Dec.{eqb, ltb, leb}
 use lib.ListN.{length, getD, take, length-take}
 use lib.Seq.{getD-take}
-use borrow.Author.Tests.{eqb-true, eqb-false, leb-true, ltb-false, not-true, ne-eqb}
+use borrow.Author.Tests.{eqb-true, eqb-false, leb-true, le-leb, eq-eqb, ltb-false, not-true, ne-eqb}
 use Rattle.bits.specs.Bits.{spread}
 use Rattle.rows.specs.Row.{pick}
 use Rattle.rows.specs.Walk.{Outcome, done, refused, andThen, read}
@@ -18,7 +18,7 @@ use Rattle.records.proofs.Inverse.{read-refused}
 use Rattle.lists.specs.Listing.{column, obeying, readList}
 use Rattle.lists.specs.Rules.{among, keeps, faultAfter}
 use Rattle.lists.specs.List.{listOf, gotList, noList, listFault, outside, listRead}
-use Rattle.lists.specs.Entries.{counted}
+use Rattle.lists.specs.Entries.{counted, without}
 use Rattle.lists.specs.declared.list.Entry.{Entry}
 use Rattle.lists.specs.declared.list.ContractList.{ContractList}
 use Rattle.lists.specs.declared.list.ListRead.{ListRead}
@@ -32,6 +32,11 @@ Apart limit before (p ∷ ps) = (1 ≤ p) × (p ≤ limit) × (among p before �
 abbrev pub Full : ℕ → List ℕ → Type 0
 Full full [] = Unit {0}
 Full full (b ∷ bs) = (b / 2 ≡ full) × Full full bs
+
+pub full-at : (full : ℕ) (bs : List ℕ) (i : ℕ) → Full full bs → i < length bs → getD bs i 0 / 2 ≡ full
+full-at full [] i f h = absurd (omega arith)
+full-at full (b ∷ bs) zero f h = f .0
+full-at full (b ∷ bs) (suc i) f h = full-at full bs i (f .1) (omega arith)
 
 all-four : (a b c d : Bool) → (a && b && c && d) ≡ true → (a ≡ true) × (b ≡ true) × (c ≡ true) × (d ≡ true)
 all-four true true true true h = (refl, refl, refl, refl)
@@ -60,6 +65,13 @@ none-at-fault full limit before (b ∷ bs) (p ∷ ps) same h =
         let (bitmaps, pointers) = more h in
         ((eqb-true _ _ fills, bitmaps), (leb-true _ _ low, leb-true _ _ high, not-true _ new, pointers))
     go false e h more = absurd (omega arith)
+
+-- And where each keeps it, none is at fault.
+pub fault-none : (full limit : ℕ) (before bs ps : List ℕ) → Full full bs → Apart limit before ps → faultAfter full limit before bs ps ≡ 0
+fault-none full limit before [] ps f a = refl
+fault-none full limit before (b ∷ bs) [] f a = refl
+fault-none full limit before (b ∷ bs) (p ∷ ps) (fills, f) (low, high, new, a) =
+    rw (eq-eqb _ _ fills, le-leb _ _ low, le-leb _ _ high, new) (fault-none full limit (before ++ (p ∷ [])) bs ps f a)
 
 -- A contract list that was read.
 pub record WasRead (n : ℕ) (bytes : List ℕ) (l : ContractList) : Type 0 where
@@ -124,7 +136,7 @@ count-most n bs {vals} h =
     most true e z = absurd (omega arith)
     most false e z = ltb-false _ _ e
 
-take-map : {A B : Type 0} (f : A → B) (k : ℕ) (l : List A) → take k (map f l) ≡ map f (take k l)
+pub take-map : {A B : Type 0} (f : A → B) (k : ℕ) (l : List A) → take k (map f l) ≡ map f (take k l)
 take-map f zero l = refl
 take-map f (suc k) [] = refl
 take-map f (suc k) (a ∷ l) = ap (λ (x : List _). f a ∷ x) (take-map f k l)
@@ -227,6 +239,10 @@ take-each k before (p ∷ ps) (low, high, new, rest) =
     let others = take-each k (before ++ (p ∷ [])) ps rest in
     rw whole (omega (arith, own, others))
 
+-- So there are at most n.
+pub room-all : (n : ℕ) (ps : List ℕ) → Apart n [] ps → length ps ≤ n
+room-all n ps kept = omega (arith, take-each n [] ps kept, all-vacant n)
+
 -- A list whose pointers leave one vacant has room for another entry.
 pub room-left : (n q : ℕ) (ps : List ℕ) → Apart n [] ps → 1 ≤ q → q ≤ n → among q ps ≡ false → length ps < n
 room-left n q ps kept low high new =
@@ -256,3 +272,43 @@ module _ (n : ℕ) where
   one-each before (x ∷ es) e f (low, high, new, rest) (List·Memᴰ·tail a) (List·Memᴰ·head b) same =
       absurd (later-other before (x .pointer) es e rest a (rw (← b) (sym same)))
   one-each before (x ∷ es) e f (low, high, new, rest) (List·Memᴰ·tail a) (List·Memᴰ·tail b) same = one-each (before ++ (x .pointer ∷ [])) es e f rest a b same
+
+-- Entries of which those of a pointer left, and one with that pointer came behind, have a pointer each, too.
+module _ (n p : ℕ) where
+  apart-fewer : (before before′ : List ℕ) (es : List Entry) → ((q : ℕ) → among q before ≡ false → among q before′ ≡ false)
+      → Apart n before (map (λ (x : Entry). x .pointer) es) → Apart n before′ (map (λ (x : Entry). x .pointer) (without p es))
+  apart-fewer before before′ [] fewer a = tt
+  apart-fewer before before′ (e ∷ es) fewer (low, high, new, rest) =
+      go (eqb (e .pointer) p)
+      (apart-fewer (before ++ (e .pointer ∷ [])) before′ es (λ q h. fewer q (neither (among q before) (eqb (e .pointer) q) (sym (among-last q before (e .pointer)) ∙ h) .0)) rest)
+      (apart-fewer (before ++ (e .pointer ∷ [])) (before′ ++ (e .pointer ∷ [])) es
+      (λ q h.
+      let (old, other) = neither (among q before) (eqb (e .pointer) q) (sym (among-last q before (e .pointer)) ∙ h) in
+      rw (among-last q before′ (e .pointer), fewer q old, other))
+      rest)
+    where
+      go : (t : Bool) → Apart n before′ (map (λ (x : Entry). x .pointer) (without p es))
+          → Apart n (before′ ++ (e .pointer ∷ [])) (map (λ (x : Entry). x .pointer) (without p es))
+          → Apart n before′ (map (λ (x : Entry). x .pointer) (pick t (without p es) (e ∷ without p es)))
+      go true skipped kept = skipped
+      go false skipped kept = (low, high, fewer (e .pointer) new, kept)
+
+  apart-last : (before ps : List ℕ) → 1 ≤ p → p ≤ n → among p before ≡ false → among p ps ≡ false → Apart n before ps → Apart n before (ps ++ (p ∷ []))
+  apart-last before [] low high old new a = (low, high, old, tt)
+  apart-last before (x ∷ ps) low high old new (l, h, first, rest) =
+      let (other, later) = neither (eqb x p) (among p ps) new in
+      (l, h, first, apart-last (before ++ (x ∷ [])) ps low high (rw (among-last p before x, old, other)) later rest)
+
+  none-without : (es : List Entry) → among p (map (λ (x : Entry). x .pointer) (without p es)) ≡ false
+  none-without [] = refl
+  none-without (e ∷ es) = go (eqb (e .pointer) p) refl (none-without es)
+    where
+      go : (t : Bool) → eqb (e .pointer) p ≡ t → among p (map (λ (x : Entry). x .pointer) (without p es)) ≡ false
+          → among p (map (λ (x : Entry). x .pointer) (pick t (without p es) (e ∷ without p es))) ≡ false
+      go true same rest = rest
+      go false other rest = rw (other, rest)
+
+  pub apart-afterwards : (es : List Entry) → 1 ≤ p → p ≤ n → Apart n [] (map (λ (x : Entry). x .pointer) es)
+      → Apart n [] (map (λ (x : Entry). x .pointer) (without p es) ++ (p ∷ []))
+  apart-afterwards es low high a =
+      apart-last [] (map (λ (x : Entry). x .pointer) (without p es)) low high refl (none-without es) (apart-fewer [] [] es (λ q h. h) a)

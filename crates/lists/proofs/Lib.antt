@@ -5,3 +5,4 @@ pub mod Relisting
 pub mod Kept
 pub mod Recoding
 pub mod Numbers
+pub mod Sounding

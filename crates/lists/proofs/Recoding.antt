@@ -24,7 +24,7 @@ use Rattle.lists.specs.List.{numbersOf, listOf, outside, gotList, listFa
 use Rattle.lists.specs.Listing.{column, writeList}
 use Rattle.lists.specs.Entries.{withPriority, priorityPlace}
 use Rattle.lists.specs.declared.list.ContractList.{ContractList}
-use Rattle.lists.proofs.Kept.{Full, list-was-read, list-kept, count-most, columns-kept}
+use Rattle.lists.proofs.Kept.{full-at, list-was-read, list-kept, count-most, columns-kept}
 
 -- What computing says of the slot of a priority.
 record Slot (n code : ℕ) (vals : List ℕ) (k : ℕ) : Type 0 where
@@ -46,12 +46,7 @@ slot n code vals (suc (suc (suc (suc (suc (suc zero)))))) h = record { free = re
 slot n code vals (suc (suc (suc (suc (suc (suc (suc zero))))))) h = record { free = refl; numbers = refl; fault = refl; rule = refl; width = refl }
 slot n code vals (suc (suc (suc (suc (suc (suc (suc (suc k)))))))) h = absurd (omega arith)
 
-full-at : (full : ℕ) (bs : List ℕ) (i : ℕ) → Full full bs → i < length bs → getD bs i 0 / 2 ≡ full
-full-at full [] i f h = absurd (omega arith)
-full-at full (b ∷ bs) zero f h = f .0
-full-at full (b ∷ bs) (suc i) f h = full-at full bs i (f .1) (omega arith)
-
-slots-list : (n : ℕ) → slots (contractList n) ≡ 49
+pub slots-list : (n : ℕ) → slots (contractList n) ≡ 49
 unfolding contractList
 slots-list n = refl
 

@@ -21,8 +21,8 @@ use Rattle.lists.specs.Entries.{counted, listing, without}
 use Rattle.lists.specs.declared.list.Entry.{Entry}
 use Rattle.lists.specs.declared.list.ContractList.{ContractList}
 use Rattle.lists.specs.declared.list.ListRead.{ListRead}
-use Rattle.lists.proofs.Entries.{appended-listing, length-without, length-counted}
-use Rattle.lists.proofs.Kept.{Kept, list-kept, list-got, room-left}
+use Rattle.lists.proofs.Entries.{appended-listing, length-without}
+use Rattle.lists.proofs.Kept.{Kept, list-kept, list-got, room-left, room-all}
 use Rattle.contract.specs.Contract.{contractRead, contractWritten, numbersOf, tableOf}
 use Rattle.contract.specs.declared.Contract.{Contract}
 use Rattle.contract.specs.declared.ContractRead.the-variants.{Read, Refused}
@@ -37,8 +37,8 @@ use Rattle.loading.proofs.Placing.{Named, placed-free-or-erasable, plac
 use Rattle.loading.proofs.Told.{blocking-never}
 
 -- What all of some tests tell of one.
-of-six : (a b c d e f : Bool) → (a && b && c && d && e && f) ≡ true → (b ≡ true) × (e ≡ true) × (f ≡ true)
-of-six true true true true true true h = (refl, refl, refl)
+of-six : (a b c d e f : Bool) → (a && b && c && d && e && f) ≡ true → (a ≡ true) × (b ≡ true) × (e ≡ true) × (f ≡ true)
+of-six true true true true true true h = (refl, refl, refl, refl)
 of-six true true true true true false h = absurd (true≢false (sym h))
 of-six true true true true false f h = absurd (true≢false (sym h))
 of-six true true true false e f h = absurd (true≢false (sym h))
@@ -46,8 +46,14 @@ of-six true true false d e f h = absurd (true≢false (sym h))
 of-six true false c d e f h = absurd (true≢false (sym h))
 of-six false b c d e f h = absurd (true≢false (sym h))
 
-of-ten : (a b c d e f g h i j : Bool) → (a && b && c && d && e && f && g && h && i && j) ≡ true → (b ≡ true) × (d ≡ true)
-of-ten true true true true e f g h i j all = (refl, refl)
+of-ten : (a b c d e f g h i j : Bool) → (a && b && c && d && e && f && g && h && i && j) ≡ true → (b ≡ true) × (d ≡ true) × (j ≡ true)
+of-ten true true true true true true true true true true all = (refl, refl, refl)
+of-ten true true true true true true true true true false all = absurd (true≢false (sym all))
+of-ten true true true true true true true true false j all = absurd (true≢false (sym all))
+of-ten true true true true true true true false i j all = absurd (true≢false (sym all))
+of-ten true true true true true true false h i j all = absurd (true≢false (sym all))
+of-ten true true true true true false g h i j all = absurd (true≢false (sym all))
+of-ten true true true true false f g h i j all = absurd (true≢false (sym all))
 of-ten true true true false e f g h i j all = absurd (true≢false (sym all))
 of-ten true true false d e f g h i j all = absurd (true≢false (sym all))
 of-ten true false c d e f g h i j all = absurd (true≢false (sym all))
@@ -94,10 +100,11 @@ free-among es p h = sym (same es p) ∙ not-true _ h
     same (e ∷ es) p = ap (λ (t : Bool). eqb (e .pointer) p || t) (same es p)
 
 -- Where the rule names a pointer, there is room for its entry.
-room-for : (n : ℕ) (l : ContractList) (blocked : ℕ → Bool) (p : ℕ) → Kept n l → Named blocked n (counted l) p → (p ≡ 0 → ⊥)
-    → length (without p (counted l)) < 8
+pub room-for : (n : ℕ) (l : ContractList) (blocked : ℕ → Bool) (p : ℕ) → Kept n l → Named blocked n (counted l) p → (p ≡ 0 → ⊥)
+    → length (without p (counted l)) < n
 room-for n l blocked p kept named other =
-    let few : length (counted l) ≤ 8 = omega (arith, length-counted l (kept .eight)) in
+    let all : length pointers ≡ length (counted l) = length-map (counted l) (λ (e : Entry). e .pointer) in
+    let few : length pointers ≤ n = room-all n pointers (kept .apart) in
     ⊎-elim
     (λ f.
     let left : length pointers < n = room-left n p pointers (kept .apart) (omega arith) (named .most) (free-among (counted l) p f) in
@@ -118,6 +125,8 @@ pub record Card (o : Order) (list file : List ℕ) (lent : Lent) : Type 0 where
   pub file-long : length file ≡ 29 * o .n
   pub records-long : length (lent .records) ≡ 29 * o .s
   pub new-long : length (lent .new) ≡ 29
+  pub list-long : length list ≡ 29
+  pub entry-fits : entryFits o ≡ true
 
 module _ (o : Order) (list file : List ℕ) (lent : Lent) where
   -- Where nothing is refused unread, lengths and limits agree.
@@ -127,8 +136,8 @@ module _ (o : Order) (list file : List ℕ) (lent : Lent) where
       go : (a : Bool) → lengths o (lengthsOf list file lent) ≡ a → (b : Bool) → limits o (length (lent .journal) / 29) ≡ b
           → _≡_ {A = ℕ} (pick a (pick b 0 11) 1) 0 → Card o list file lent
       go true l true k h =
-          let (file-ok, records-ok, new-ok) = of-six (eqb (length list) 29) (eqb (length file) (29 * o .n)) (eqb (length (lent .special)) 29) (eqb (length (lent .journal) % 29) 0) (eqb (length (lent .records)) (29 * o .s)) (eqb (length (lent .new)) 29) l in
-          let (high, within) = of-ten (leb 1 (o .n)) (leb (o .n) 8) (leb (o .c) 4) (leb (o .c) (o .n)) (leb (o .s) 4) (leb (length (lent .journal) / 29) 15) (leb (o .day) 16383) (leb (o .minute) 1439) (leb (o .hours) 255) (entryFits o) k in
+          let (list-ok, file-ok, records-ok, new-ok) = of-six (eqb (length list) 29) (eqb (length file) (29 * o .n)) (eqb (length (lent .special)) 29) (eqb (length (lent .journal) % 29) 0) (eqb (length (lent .records)) (29 * o .s)) (eqb (length (lent .new)) 29) l in
+          let (high, within, entry-ok) = of-ten (leb 1 (o .n)) (leb (o .n) 8) (leb (o .c) 4) (leb (o .c) (o .n)) (leb (o .s) 4) (leb (length (lent .journal) / 29) 15) (leb (o .day) 16383) (leb (o .minute) 1439) (leb (o .hours) 255) (entryFits o) k in
           record {
             lengths-agree = l;
             in-limits = k;
@@ -137,6 +146,8 @@ module _ (o : Order) (list file : List ℕ) (lent : Lent) where
             file-long = eqb-true _ _ file-ok;
             records-long = eqb-true _ _ records-ok;
             new-long = eqb-true _ _ new-ok;
+            list-long = eqb-true _ _ list-ok;
+            entry-fits = entry-ok;
           }
       go true l false k h = absurd (omega arith)
       go false l b k h = absurd (omega arith)
@@ -205,8 +216,8 @@ module _ (o : Order) (list file : List ℕ) (lent : Lent) where
                     let read : listRead (o .n) list ≡ gotList (r .list) = sym same ∙ rw (← same) at (list-got (o .n) list (ap (λ (x : ListRead). x .refusal .number) (sym same) ∙ reads)) in
                     let kept = list-kept (o .n) list (r .list) read in
                     let names = placed-free-or-erasable blocked (o .n) (o .c) (o .counter) (counted (r .list)) (card .counters) in
-                    let fits : length (without p (counted (r .list))) < 8 = room-for (o .n) (r .list) blocked p kept (rw (← named) at names) other in
-                    let lists : renewed o (r .list) p ≡ listing (afterwards (newEntry o p) (counted (r .list))) = appended-listing (newEntry o p) (without p (counted (r .list))) fits in
+                    let room : length (without p (counted (r .list))) < o .n = room-for (o .n) (r .list) blocked p kept (rw (← named) at names) other in
+                    let lists : renewed o (r .list) p ≡ listing (afterwards (newEntry o p) (counted (r .list))) = appended-listing (newEntry o p) (without p (counted (r .list))) (omega (arith, room, card .most)) in
                     let most : p ≤ o .n = rw (← named) at (names .most) in
                     let files-long : length file ≡ 29 * o .n = card .file-long in
                     let inside : 29 ≤ length (drop (29 * (p - 1)) file) = simp length-drop (omega arith) in

@@ -1,15 +1,15 @@
 -- What loading promises: the pointer is the one that the rule names, 9 exactly where it names none, nothing else on the card
 -- changes, and no entry leaves the list that was not erasable.
 use Prim.Native.Nat.{ℕ, _+_, _-_, _*_, _/_, _≤_, _<_}
-use mathlib.Core.Bool.{Bool, true, false, not, _||_, true≢false}
-use mathlib.Core.List.{List, [], _∷_, _++_, map, List·Memᴰ, List·Memᴰ·head, List·Memᴰ·tail, Memᴰ·append-left, append-assoc}
+use mathlib.Core.Bool.{Bool, true, false, not, _&&_, _||_, true≢false}
+use mathlib.Core.List.{List, [], _∷_, _++_, map, List·Memᴰ, List·Memᴰ·head, List·Memᴰ·tail, map-append, Memᴰ·append-left, append-assoc}
 use mathlib.Core.Path.{_≡_, refl, sym, ap, _∙_}
 use mathlib.Core.Logic.{_⊎_, inl, inr, ⊎-elim}
 use native.Mathlib.Omega.{arith}
-use lib.Dec.{eqb, ltb}
+use lib.Dec.{eqb, ltb, leb}
 use lib.ListN.{length, take, drop, length-append, length-drop, take-append-drop}
 use lib.Seq.{length-take-le, take-at, drop-at, drop-append-le, take-append-le, drop-append-add, drop-drop}
-use borrow.Author.Tests.{eq-eqb, ne-eqb, eqb-true, eqb-false, ltb-true, ltb-false, not-true}
+use borrow.Author.Tests.{eq-eqb, ne-eqb, eqb-true, eqb-false, ltb-true, ltb-false, leb-true, not-true}
 use Rattle.rows.specs.Row.{pick}
 use Rattle.records.specs.Answer.{Written, refusal, accepted}
 use Rattle.records.specs.Order.{Attempt, got, stopped, next, needs, recordFrom}
@@ -20,7 +20,8 @@ use Rattle.lists.specs.Rules.{among}
 use Rattle.lists.specs.Entries.{counted, listing, attempted, without}
 use Rattle.lists.specs.declared.list.Entry.{Entry}
 use Rattle.lists.specs.declared.list.ContractList.{ContractList}
-use Rattle.lists.proofs.Kept.{list-kept, list-got, one-each}
+use Rattle.lists.proofs.Kept.{Apart, list-kept, list-got, one-each, apart-afterwards}
+use Rattle.lists.proofs.Sounding.{Good, made-good, good-without, good-append, read-good, only-two}
 use Rattle.lists.proofs.Numbers.{list-write-number}
 use Rattle.lists.proofs.list.Laws.{list-write-read}
 use Rattle.contract.specs.Contract.{contractRead}
@@ -28,12 +29,12 @@ use Rattle.contract.specs.declared.Contract.{Contract}
 use Rattle.contract.specs.declared.ContractRead.{ContractRead}
 use Rattle.contract.specs.declared.ContractRead.the-variants.{Read, Refused}
 use Rattle.loading.specs.Place.{free, erasable, place, afterwards}
-use Rattle.loading.specs.Loading.{Lent, Found, found, Outcome, contractGot, lengths, lengthsOf, limits, loaded, newEntry, placed, blocking, placing, finding, settled, loading}
+use Rattle.loading.specs.Loading.{Lent, Found, found, Outcome, contractGot, lengths, lengthsOf, entryFits, networkFits, limits, loaded, newEntry, placed, blocking, placing, finding, settled, loading}
 use Rattle.loading.specs.declared.Order.{Order}
 use Rattle.loading.proofs.Placing.{Named, placed-free-or-erasable}
 use Rattle.loading.proofs.Told.{apart, Never, Unused, next-never, needs-never, list-never, blocking-never, contract-never}
 use Rattle.loading.proofs.Storing.{list-taken}
-use Rattle.loading.proofs.Ending.{Card, unread-none, free-among}
+use Rattle.loading.proofs.Ending.{Card, unread-none, free-among, room-for}
 
 -- Steps that came to a value, each by itself.
 next-got : {A B : Type 0} (t : Attempt A) (more : A → Attempt B) {b : B} → next t more ≡ got b → (a : A) × (t ≡ got a) × (more a ≡ got b)
@@ -174,6 +175,49 @@ read-found : {o : Order} {list file : List ℕ} {lent : Lent} (a : AllRead o lis
     → finding o list file lent ≡ found (counted (a .l)) (namedBy a)
 unfolding finding placing
 read-found a = rw (a .card .lengths-agree, a .card .in-limits, a .reads, a .events, a .contract)
+
+of-five : (a b c d e : Bool) → (a && b && c && d && e) ≡ true → (a ≡ true) × (b ≡ true) × (c ≡ true) × (d ≡ true) × (e ≡ true)
+of-five true true true true true all = (refl, refl, refl, refl, refl)
+of-five true true true true false all = absurd (true≢false (sym all))
+of-five true true true false e all = absurd (true≢false (sym all))
+of-five true true false d e all = absurd (true≢false (sym all))
+of-five true false c d e all = absurd (true≢false (sym all))
+of-five false b c d e all = absurd (true≢false (sym all))
+
+-- The new entry is one that a list may count.
+new-good : (o : Order) (p : ℕ) → entryFits o ≡ true → p ≤ 8 → Good (newEntry o p)
+new-good o p fits few =
+    let (key, kind, priority, defined, network) = of-five (leb (o .key) 15) (leb (o .kind) 255) (leb (o .priority) 15) (not (eqb (o .priority) 13)) (networkFits o) fits in
+    made-good (o .«has_network») (o .network) (o .key) (o .kind) (o .priority) p network (leb-true _ _ key) (leb-true _ _ kind) (leb-true _ _ priority) (eqb-false _ _ (not-true _ defined)) few
+
+-- The list afterwards is written, or it does not fit.
+list-or-two : {o : Order} {list file : List ℕ} {lent : Lent} (a : AllRead o list file lent) → (namedBy a ≡ 0 → ⊥)
+    → (listWritten (o .n) (listing (afterwards (newEntry o (namedBy a)) (counted (a .l)))) list .answer .number ≡ 0)
+    ⊎ (listWritten (o .n) (listing (afterwards (newEntry o (namedBy a)) (counted (a .l)))) list .answer .number ≡ 2)
+list-or-two {o} {list} a some =
+    let p : ℕ = namedBy a in
+    let es : List Entry = counted (a .l) in
+    let kept = list-kept (o .n) list (a .l) (a .reads) in
+    let names = placed-free-or-erasable (a .blocked) (o .n) (o .c) (o .counter) es (a .card .counters) in
+    let most : p ≤ o .n = names .most in
+    let eight : o .n ≤ 8 = a .card .most in
+    let low : 1 ≤ p = omega arith in
+    let room : length (without p es) < o .n = room-for (o .n) (a .l) (a .blocked) p kept names some in
+    let few : length (afterwards (newEntry o p) es) ≤ o .n = rw (length-append (without p es) (newEntry o p ∷ [])) (omega arith) in
+    let good = good-append (without p es) (newEntry o p) (good-without p es (read-good (o .n) list (a .l) (a .reads))) (new-good o p (a .card .entry-fits) (omega arith)) in
+    let apart : Apart (o .n) [] (map (λ (e : Entry). e .pointer) (afterwards (newEntry o p) es)) =
+    rw (map-append (λ (e : Entry). e .pointer) (without p es) (newEntry o p ∷ [])) (apart-afterwards (o .n) p es low most (kept .apart)) in
+    only-two (o .n) (afterwards (newEntry o p) es) good apart few eight list (a .card .list-long) (kept .room .0)
+
+-- The answer has the number of the list's writing.
+answers : (list file : List ℕ) (w : Written) (x : Outcome) → (w .answer .number ≡ 0) ⊎ (w .answer .number ≡ 2) → x .answer .refusal .number ≡ 0
+    → (pick (eqb (w .answer .number) 0) x (loaded (w .answer) 0 list file) .answer .refusal .number ≡ 0)
+    ⊎ (pick (eqb (w .answer .number) 0) x (loaded (w .answer) 0 list file) .answer .refusal .number ≡ 2)
+answers list file w x h fine = go (eqb (w .answer .number) 0)
+  where
+    go : (t : Bool) → (pick t x (loaded (w .answer) 0 list file) .answer .refusal .number ≡ 0) ⊎ (pick t x (loaded (w .answer) 0 list file) .answer .refusal .number ≡ 2)
+    go true = inl fine
+    go false = h
 
 -- Loading that was accepted: the pointer is the one that the rule names on what was read; the contract list is written with the
 -- old entries in order, without any of that pointer, then the new one; the contract file has the new record at its place.
@@ -327,3 +371,9 @@ module _ (o : Order) (list file : List ℕ) (lent : Lent) where
   pub none-nine : (a : AllRead o list file lent) → namedBy a ≡ 0 → out ≡ loaded (refusal 9 0) 0 list file
   unfolding loading
   none-nine a none = rw (read-found a, eq-eqb _ _ none)
+
+  -- Where all reads and the rule names a pointer, it is accepted, or the list does not fit and it is 2: the list afterwards can
+  -- be refused for nothing else.
+  pub loads-or-two : (a : AllRead o list file lent) → (namedBy a ≡ 0 → ⊥) → (out .answer .refusal .number ≡ 0) ⊎ (out .answer .refusal .number ≡ 2)
+  unfolding loading
+  loads-or-two a some = rw (read-found a, ne-eqb _ _ some) (answers list file (listWritten (o .n) (listing (afterwards (newEntry o (namedBy a)) (counted (a .l)))) list) (loaded (refusal 0 0) (namedBy a) ((listWritten (o .n) (listing (afterwards (newEntry o (namedBy a)) (counted (a .l)))) list) .bytes) (placed (namedBy a) (lent .new) file)) (list-or-two a some) refl)

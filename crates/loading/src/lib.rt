@@ -94,11 +94,6 @@ impl Order {
     fn entry_in_limits(self) -> bool
         ensures { λ r. ⌜ r ≡ entryFits self ⌝ }
     {
-        let network = if self.has_network {
-            self.network < 16777216
-        } else {
-            self.network == 0
-        };
         (self.key <= 15)
             & (self.kind <= 255)
             & (self.priority <= 15)

@@ -11,3 +11,4 @@ pub mod Tables
 pub mod Wide
 pub mod Putting
 pub mod Numbers
+pub mod Sound

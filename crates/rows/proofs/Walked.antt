@@ -40,7 +40,7 @@ faultAt room r seen at vs = fault (exceeds (boxesOf r seen) vs) (at + total (box
 module _ (room : ℕ) (from : Source) (r : Row) (rs : List Row) (i : ℕ) (seen : List ℕ) (at : ℕ) (vs : List ℕ)
     (gives : from at (length seen) (boxesOf r seen) ≡ vs) where
   -- A row to which the source gives vs: the rest of the walk behind them, or the refusal.
-  walk-row : walk room from (r ∷ rs) i seen at
+  pub walk-row : walk room from (r ∷ rs) i seen at
       ≡ pick (eqb (faultAt room r seen at vs) 0) (walk room from rs (suc i) (seen ++ vs) (at + total (boxesOf r seen)))
       (refused (faultAt room r seen at vs) at i)
   unfolding field
@@ -101,7 +101,7 @@ module _ (bs : List Bool) where
       )
 
 -- The slots of numbers give a row its part of them.
-slots-row : (r : Row) (seen : List ℕ) (at : ℕ) (vals : List ℕ) → slotsOf (seen ++ vals) at (length seen) (boxesOf r seen) ≡ take (length (r .boxes)) vals
+pub slots-row : (r : Row) (seen : List ℕ) (at : ℕ) (vals : List ℕ) → slotsOf (seen ++ vals) at (length seen) (boxesOf r seen) ≡ take (length (r .boxes)) vals
 slots-row r seen at vals = rw (drop-append-seam, length-boxes)
 
 -- What is known where a walk over numbers succeeds.
