@@ -1,10 +1,9 @@
 // The library's operations over lines of text: a request a line on standard input, an answer a line on standard output.
-mod answer;
 mod requests;
-mod scan;
 
 use libc::STDIN_FILENO;
 use libc::STDOUT_FILENO;
+use lines::answer;
 
 // What is taken of the line that comes, and whether there may be more.
 struct Input {

@@ -1,16 +1,16 @@
 // The requests by their words.
 mod cards;
-mod contract_lists;
-mod contracts;
-mod environments;
-mod events;
 mod gate_writes;
-mod holders;
-mod special_lists;
 
-use crate::scan;
-use crate::scan::BYTES;
-use crate::scan::Scan;
+use lines::contract_lists;
+use lines::contracts;
+use lines::environments;
+use lines::events;
+use lines::holders;
+use lines::scan;
+use lines::scan::BYTES;
+use lines::scan::Scan;
+use lines::special_lists;
 
 // The most letters of a request.
 const MOST: usize = 8192;

@@ -1,8 +1,8 @@
 // select, priority and load.
-use crate::answer;
-use crate::scan;
-use crate::scan::BYTES;
-use crate::scan::Scan;
+use lines::answer;
+use lines::scan;
+use lines::scan::BYTES;
+use lines::scan::Scan;
 use loading::Order;
 use selection::Selected;
 

@@ -1,8 +1,8 @@
 // apply, find and join.
-use crate::answer;
-use crate::scan;
-use crate::scan::BYTES;
-use crate::scan::Scan;
+use lines::answer;
+use lines::scan;
+use lines::scan::BYTES;
+use lines::scan::Scan;
 
 pub fn apply(line: &[u8], from: Scan, record: &mut [u8], out: &mut [u8]) -> usize {
     let mut writes = [0u8; BYTES];

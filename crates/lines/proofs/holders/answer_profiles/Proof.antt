@@ -2,8 +2,8 @@ use Prim.Native.Nat.{_≤_, _-_}
 use mathlib.Core.Path.{_≡_}
 use lib.ListN.{length}
 use borrow.Author.Needs.{needs}
-use Rattle.replay.proofs.requests.holders.answer_profiles.Statement.{statement}
-use Rattle.replay.proofs.requests.holders.answer_profiles.Tie as tie
+use Rattle.lines.proofs.holders.answer_profiles.Statement.{statement}
+use Rattle.lines.proofs.holders.answer_profiles.Tie as tie
 
 abbrev Inv-loop : tie.InvT-loop
 Inv-loop out₀ end h last₀ i₀ out last i = (length out ≡ length out₀) × (i ≤ 4)

@@ -1,8 +1,8 @@
 use native.Mathlib.Omega.{arith}
 use lib.ListN.{length-take}
 use borrow.Author.Needs.{needs}
-use Rattle.replay.proofs.scan.filled.Statement.{statement}
-use Rattle.replay.proofs.scan.filled.Tie as tie
+use Rattle.lines.proofs.scan.filled.Statement.{statement}
+use Rattle.lines.proofs.scan.filled.Tie as tie
 
 shared-slice-read-if2 : tie.Need-shared-slice-read-if2
 shared-slice-read-if2 c = search needs

@@ -2,26 +2,26 @@ use Prim.Native.Nat.{_-_}
 use mathlib.Core.Path.{_≡_}
 use lib.ListN.{length}
 use borrow.Author.Needs.{needs}
-use Rattle.replay.proofs.scan.letters.Statement.{statement}
-use Rattle.replay.proofs.scan.letters.Tie as tie
+use Rattle.lines.proofs.answer.numbers.Statement.{statement}
+use Rattle.lines.proofs.answer.numbers.Tie as tie
 
 abbrev Inv-loop : tie.InvT-loop
-Inv-loop line out₀ last₀ i₀ out last i = length out ≡ length out₀
+Inv-loop out₀ end numbers last₀ i₀ out last i = length out ≡ length out₀
 
 abbrev μ-loop : tie.MeasureT-loop
-μ-loop line out₀ last₀ i₀ out last i = length out₀ - i
+μ-loop out₀ end numbers last₀ i₀ out last i = length numbers - i
 
 loop-holds : tie.Need-loop-holds Inv-loop μ-loop
 loop-holds c = search needs
 
-at-most-requires : tie.Need-at-most-requires Inv-loop μ-loop
-at-most-requires c κs = search needs
+mul-number : tie.Need-mul-number Inv-loop μ-loop
+mul-number c = search needs
 
-mul-out : tie.Need-mul-out Inv-loop μ-loop
-mul-out c = search needs
+shared-slice-read-number : tie.Need-shared-slice-read-number Inv-loop μ-loop
+shared-slice-read-number c = search needs
 
-slice-write-out : tie.Need-slice-write-out Inv-loop μ-loop
-slice-write-out c = search needs
+number-requires : tie.Need-number-requires Inv-loop μ-loop
+number-requires c κs = search needs
 
 add-i : tie.Need-add-i Inv-loop μ-loop
 add-i c = search needs
@@ -38,16 +38,16 @@ same-length c = search needs
 returns : tie.Need-returns Inv-loop μ-loop
 returns c = search needs
 
-pub letters-spec : {M : Type 1} → statement M
-letters-spec =
+pub numbers-spec : {M : Type 1} → statement M
+numbers-spec =
     tie.close
     (tie.spec
     Inv-loop
     μ-loop
     loop-holds
-    at-most-requires
-    mul-out
-    slice-write-out
+    mul-number
+    shared-slice-read-number
+    number-requires
     add-i
     loop-less
     loop-again

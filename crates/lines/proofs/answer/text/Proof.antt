@@ -2,26 +2,23 @@ use Prim.Native.Nat.{_-_}
 use mathlib.Core.Path.{_≡_}
 use lib.ListN.{length}
 use borrow.Author.Needs.{needs}
-use Rattle.replay.proofs.answer.numbers.Statement.{statement}
-use Rattle.replay.proofs.answer.numbers.Tie as tie
+use Rattle.lines.proofs.answer.text.Statement.{statement}
+use Rattle.lines.proofs.answer.text.Tie as tie
 
 abbrev Inv-loop : tie.InvT-loop
-Inv-loop out₀ end numbers last₀ i₀ out last i = length out ≡ length out₀
+Inv-loop out₀ end text last₀ i₀ out last i = length out ≡ length out₀
 
 abbrev μ-loop : tie.MeasureT-loop
-μ-loop out₀ end numbers last₀ i₀ out last i = length numbers - i
+μ-loop out₀ end text last₀ i₀ out last i = length text - i
 
 loop-holds : tie.Need-loop-holds Inv-loop μ-loop
 loop-holds c = search needs
 
-mul-number : tie.Need-mul-number Inv-loop μ-loop
-mul-number c = search needs
+shared-slice-read-letter : tie.Need-shared-slice-read-letter Inv-loop μ-loop
+shared-slice-read-letter c = search needs
 
-shared-slice-read-number : tie.Need-shared-slice-read-number Inv-loop μ-loop
-shared-slice-read-number c = search needs
-
-number-requires : tie.Need-number-requires Inv-loop μ-loop
-number-requires c κs = search needs
+letter-requires : tie.Need-letter-requires Inv-loop μ-loop
+letter-requires c κs = search needs
 
 add-i : tie.Need-add-i Inv-loop μ-loop
 add-i c = search needs
@@ -38,16 +35,15 @@ same-length c = search needs
 returns : tie.Need-returns Inv-loop μ-loop
 returns c = search needs
 
-pub numbers-spec : {M : Type 1} → statement M
-numbers-spec =
+pub text-spec : {M : Type 1} → statement M
+text-spec =
     tie.close
     (tie.spec
     Inv-loop
     μ-loop
     loop-holds
-    mul-number
-    shared-slice-read-number
-    number-requires
+    shared-slice-read-letter
+    letter-requires
     add-i
     loop-less
     loop-again

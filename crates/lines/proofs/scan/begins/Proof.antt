@@ -1,8 +1,8 @@
 use Prim.Native.Nat.{_≤_, _-_}
 use lib.ListN.{length}
 use borrow.Author.Needs.{needs}
-use Rattle.replay.proofs.scan.begins.Statement.{statement}
-use Rattle.replay.proofs.scan.begins.Tie as tie
+use Rattle.lines.proofs.scan.begins.Statement.{statement}
+use Rattle.lines.proofs.scan.begins.Tie as tie
 
 abbrev Inv-loop : tie.InvT-loop
 Inv-loop line word i₀ i = i ≤ length word

@@ -1,12 +1,12 @@
 use native.Mathlib.Omega.{arith}
 use lib.ListN.{length-take}
 use borrow.Author.Needs.{needs}
-use Rattle.replay.proofs.scan.bytes.Statement.{statement}
-use Rattle.replay.proofs.scan.bytes.Tie as tie
-use Rattle.replay.proofs.scan.bytes.Reads as reads
-use Rattle.replay.proofs.scan.bytes.Lts as lts
-use Rattle.replay.proofs.scan.filled.Reads as filled-reads
-use Rattle.replay.proofs.scan.next.Reads as next-reads
+use Rattle.lines.proofs.scan.bytes.Statement.{statement}
+use Rattle.lines.proofs.scan.bytes.Tie as tie
+use Rattle.lines.proofs.scan.bytes.Reads as reads
+use Rattle.lines.proofs.scan.bytes.Lts as lts
+use Rattle.lines.proofs.scan.filled.Reads as filled-reads
+use Rattle.lines.proofs.scan.next.Reads as next-reads
 
 -- src/scan.rt:149:9
 next-requires : tie.Need-next-requires

@@ -2,23 +2,26 @@ use Prim.Native.Nat.{_-_}
 use mathlib.Core.Path.{_≡_}
 use lib.ListN.{length}
 use borrow.Author.Needs.{needs}
-use Rattle.replay.proofs.answer.text.Statement.{statement}
-use Rattle.replay.proofs.answer.text.Tie as tie
+use Rattle.lines.proofs.scan.letters.Statement.{statement}
+use Rattle.lines.proofs.scan.letters.Tie as tie
 
 abbrev Inv-loop : tie.InvT-loop
-Inv-loop out₀ end text last₀ i₀ out last i = length out ≡ length out₀
+Inv-loop line out₀ last₀ i₀ out last i = length out ≡ length out₀
 
 abbrev μ-loop : tie.MeasureT-loop
-μ-loop out₀ end text last₀ i₀ out last i = length text - i
+μ-loop line out₀ last₀ i₀ out last i = length out₀ - i
 
 loop-holds : tie.Need-loop-holds Inv-loop μ-loop
 loop-holds c = search needs
 
-shared-slice-read-letter : tie.Need-shared-slice-read-letter Inv-loop μ-loop
-shared-slice-read-letter c = search needs
+at-most-requires : tie.Need-at-most-requires Inv-loop μ-loop
+at-most-requires c κs = search needs
 
-letter-requires : tie.Need-letter-requires Inv-loop μ-loop
-letter-requires c κs = search needs
+mul-out : tie.Need-mul-out Inv-loop μ-loop
+mul-out c = search needs
+
+slice-write-out : tie.Need-slice-write-out Inv-loop μ-loop
+slice-write-out c = search needs
 
 add-i : tie.Need-add-i Inv-loop μ-loop
 add-i c = search needs
@@ -35,15 +38,16 @@ same-length c = search needs
 returns : tie.Need-returns Inv-loop μ-loop
 returns c = search needs
 
-pub text-spec : {M : Type 1} → statement M
-text-spec =
+pub letters-spec : {M : Type 1} → statement M
+letters-spec =
     tie.close
     (tie.spec
     Inv-loop
     μ-loop
     loop-holds
-    shared-slice-read-letter
-    letter-requires
+    at-most-requires
+    mul-out
+    slice-write-out
     add-i
     loop-less
     loop-again
