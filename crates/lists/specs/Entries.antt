@@ -8,7 +8,7 @@ use Rattle.rows.specs.Change.{placeOf}
 use Rattle.rows.specs.table.BestContracts.{contractList}
 use Rattle.records.specs.Answer.{named}
 use Rattle.records.specs.Order.{Attempt, got, stopped}
-use Rattle.lists.specs.List.{entryOf, numbersOf, listRead}
+use Rattle.lists.specs.List.{entryOf, numbersOf}
 use Rattle.lists.specs.declared.list.Entry.{Entry}
 use Rattle.lists.specs.declared.list.ContractList.{ContractList}
 use Rattle.lists.specs.declared.list.ListRead.{ListRead}

@@ -28,7 +28,7 @@ use Rattle.contract.specs.Contract.{contractRead}
 use Rattle.contract.specs.declared.Contract.{Contract}
 use Rattle.contract.specs.declared.ContractRead.{ContractRead}
 use Rattle.contract.specs.declared.ContractRead.the-variants.{Read, Refused}
-use Rattle.loading.specs.Place.{free, erasable, place, afterwards}
+use Rattle.loading.specs.Place.{erasable, place, afterwards}
 use Rattle.loading.specs.Loading.{Lent, Found, found, Outcome, contractGot, lengths, lengthsOf, entryFits, networkFits, limits, loaded, newEntry, placed, blocking, placing, finding, settled, loading}
 use Rattle.loading.specs.declared.Order.{Order}
 use Rattle.loading.proofs.Placing.{Named, placed-free-or-erasable}

@@ -1,9 +1,9 @@
 -- What operations on several records share: steps in order, of which the first fault wins, and the records of a lent file.
 -- Document 01, "Refusal numbers", the order.
 use Prim.Native.Nat.{ℕ, zero, suc, _-_, _*_, _/_}
-use mathlib.Core.Bool.{Bool, true, false, _&&_}
+use mathlib.Core.Bool.{Bool, _&&_}
 use mathlib.Core.List.{List, [], _∷_}
-use lib.Dec.{ltb, leb}
+use lib.Dec.{leb}
 use lib.ListN.{length, take, drop}
 use Rattle.rows.specs.Row.{pick}
 use Rattle.records.specs.Answer.{refusal}
