@@ -9,7 +9,8 @@ use native.Mathlib.Nat.{mul-zero, mul-suc, add-comm}
 use lib.Pow.{pow-pos}
 use lib.ListN.{length, getD, set, take, drop, length-append, length-drop, take-append-drop}
 use lib.Seq.{drop-drop, drop-at, ext-getD, length-take-le, take-all, take-append-le, take-suc, take-suc-set}
-use Rattle.bits.specs.Bits.{number, zeros, spread, cut, bitsOf, numberAt}
+use Rattle.bits.specs.Bits.{number, zeros, spread, cut, bitsOf}
+use Rattle.bits.specs.inner.Words.{numberAt}
 use Rattle.bits.proofs.Spelling.{length-bits-of, number-bits-of, bits-of-number}
 use Rattle.bits.proofs.Fronts.{front-padded, front-at, part, part-lt, part-part, part-past, part-pad, part-take}
 

@@ -1,10 +1,10 @@
 -- Bits and the numbers that they spell. Document 01, "Boxes and bitmaps": bit 0 is the top bit of byte 0, and
 -- numbers stand high bit first.
-use Prim.Native.Nat.{ℕ, zero, suc, _+_, _*_, _/_, _%_, _^_, _-_}
+use Prim.Native.Nat.{ℕ, zero, suc, _+_, _*_, _/_, _%_}
 use mathlib.Core.List.{List, [], _∷_, _++_}
 use mathlib.Core.Bool.{Bool, true, false}
 use lib.Dec.{eqb}
-use lib.ListN.{length, getD, take, drop, replicate}
+use lib.ListN.{take, drop, replicate}
 
 abbrev pub bit : Bool → ℕ
 bit true = 1
@@ -43,10 +43,6 @@ zeros n = replicate n false
 abbrev pub cut : ℕ → ℕ → ℕ → List Bool → List ℕ
 cut step w zero bs = []
 cut step w (suc n) bs = number (take w (bs ++ zeros w)) ∷ cut step w n (drop step bs)
-
--- The number in the w bits from bit at on, taken from words of 63 bits that begin 32 bits apart.
-abbrev pub numberAt : List ℕ → ℕ → ℕ → ℕ
-numberAt words at w = getD words (at / 32) 0 / 2 ^ (63 - at % 32 - w) % 2 ^ w
 
 -- Two strings of bits as one, place by place: a bit is one where it is one in either.
 abbrev pub join : List Bool → List Bool → List Bool

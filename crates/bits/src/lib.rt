@@ -4,7 +4,8 @@ ghost use mathlib.Core.Bool.{Bool};
 ghost use mathlib.Core.List.{List, _++_};
 ghost use Prim.Native.Nat.{ℕ, _+_, _*_, _/_, _<_, _≤_, _^_};
 ghost use lib.ListN.{length, getD, take, drop};
-ghost use Rattle.bits.specs.Bits.{number, spread, zeros, cut, bitsOf, leading, numberAt};
+ghost use Rattle.bits.specs.Bits.{number, spread, zeros, cut, bitsOf, leading};
+ghost use Rattle.bits.specs.inner.Words.{numberAt};
 
 // Four bytes as one number, high byte first.
 fn four(a: u8, b: u8, c: u8, d: u8) -> u64

@@ -1,3 +1,4 @@
 pub mod Absent
 pub mod Laws
+pub mod Telling
 pub mod Writing

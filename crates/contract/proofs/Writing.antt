@@ -11,12 +11,13 @@ use borrow.Author.Tests.{eq-eqb, eqb-false}
 use Rattle.bits.specs.Bits.{cut, zeros}
 use Rattle.rows.specs.Row.{pick}
 use Rattle.rows.specs.Walk.{Outcome, done, refused, andThen, write, frame, laidOn, slots}
-use Rattle.rows.specs.Step.{said, Packed}
+use Rattle.rows.specs.inner.Step.{said, Packed}
 use Rattle.rows.specs.declared.Cursor.{Cursor}
 use Rattle.rows.specs.table.Contract.{head, data42, data50, contract42, contract50}
 use Rattle.rows.proofs.Running.{puts-write}
 use Rattle.records.specs.Answer.{Written, accepted, denied, written, writeRecord}
-use Rattle.contract.specs.Contract.{isCarnet, known, tableOf, agrees, carnet, urban, numbers42, numbers50, headNumbers, numbersOf, disagreement, contractWritten, PutHead, PutOf}
+use Rattle.contract.specs.Contract.{isCarnet, known, tableOf, agrees, carnet, urban, numbers42, numbers50, headNumbers, numbersOf, disagreement, contractWritten}
+use Rattle.contract.specs.inner.Steps.{PutHead, PutOf}
 use Rattle.contract.specs.declared.Contract.{Contract}
 use Rattle.records.proofs.Answering.{record-written, record-denied}
 

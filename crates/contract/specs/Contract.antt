@@ -3,16 +3,13 @@
 use Prim.Native.Nat.{ℕ, _/_, _^_}
 use mathlib.Core.Bool.{Bool, true, false, not, _&&_, _||_}
 use mathlib.Core.List.{List, [], _∷_, _++_}
-use mathlib.Core.Path.{_≡_}
 use lib.Dec.{eqb}
 use lib.ListN.{length, getD}
 use Rattle.bits.specs.Bits.{odd}
 use Rattle.rows.specs.Row.{Row, pick}
 use Rattle.rows.specs.Walk.{andThen, refused, write}
-use Rattle.rows.specs.Line.{start, Taken, Puts}
-use Rattle.rows.specs.declared.Cursor.{Cursor}
 use Rattle.rows.specs.table.Contract.{head, contract42, contract50}
-use Rattle.records.specs.Answer.{Written, refusal, denied, written, readRecord, writeRecord}
+use Rattle.records.specs.Answer.{Written, Told, toldValue, toldRefusal, refusal, denied, written, readRecord, writeRecord}
 use Rattle.contract.specs.declared.Data42.{Data42}
 use Rattle.contract.specs.declared.Data50.{Data50}
 use Rattle.contract.specs.declared.Data.{Data}
@@ -211,6 +208,17 @@ contractOf kind vals = withData (headOf vals) (dataOf kind vals)
 abbrev pub known : ℕ → Bool
 known kind = isCarnet kind || isUrban kind
 
+-- The numbers of the data behind their type: 0 alone for none.
+abbrev pub dataTold : Data → List ℕ
+dataTold Nothing = 0 ∷ []
+dataTold (Carnet d) = 66 ∷ numbers42 d
+dataTold (Urban d) = 80 ∷ numbers50 d
+
+-- The cases of the answer to a reading, each by its number, its place and its values.
+abbrev pub contractTold : ContractRead → Told
+contractTold (Read c) = toldValue (headNumbers c ++ dataTold (c .«data»))
+contractTold (Refused r) = toldRefusal 10 r
+
 -- Refusal 1 for the length comes first, then 3 for the type.
 abbrev pub checked : {A : Type 0} → ℕ → List ℕ → A → (ℕ → A) → A
 checked kind bytes go stop = pick (eqb (length bytes) 29) (pick (known kind) go (stop 3)) (stop 1)
@@ -256,25 +264,3 @@ contractWritten kind c before =
     checked kind before
     (pick (agrees kind c) (writeRecord (tableOf kind) (numbersOf kind c) before) (disagreement c before))
     (λ n. denied n 0 before)
-
--- The takes of a contract of a type: they took the numbers of its table, and the value is made of these.
-pub record TakenOf (words : List ℕ) (kind : ℕ) (value : Contract) (last : Cursor) : Type 0 where
-  pub all : List ℕ
-  pub taken : Taken words 232 (tableOf kind) [] start all last
-  pub made : contractOf kind all ≡ value
-
--- A cursor behind the head, where the data do not agree.
-abbrev pub disagreed : Cursor → Cursor
-disagreed e = pick (eqb (e .why) 0) (record { at = e .at; why = 7; number = 0 }) e
-
--- The puts of the head alone, for data that do not agree.
-pub record PutHead (c : Contract) (xs : List ℕ) (d : Cursor) : Type 0 where
-  pub draft : List ℕ
-  pub last : Cursor
-  pub puts : Puts 232 (headNumbers c) head [] xs start (headNumbers c) draft last
-  pub stops : d ≡ disagreed last
-
--- The puts of a contract under a type.
-pub record PutOf (kind : ℕ) (c : Contract) (xs ys : List ℕ) (d : Cursor) : Type 0 where
-  pub agreed : agrees kind c ≡ true → Puts 232 (numbersOf kind c) (tableOf kind) [] xs start (numbersOf kind c) ys d
-  pub opposed : agrees kind c ≡ false → PutHead c xs d

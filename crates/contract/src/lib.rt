@@ -4,10 +4,11 @@ ghost use mathlib.Core.List.{List, [], _∷_, _++_};
 ghost use Prim.Native.Nat.{ℕ};
 ghost use lib.ListN.{length, take, drop};
 ghost use Rattle.rows.specs.Row.{pick};
-ghost use Rattle.rows.specs.Step.{Ready, Drafted};
-ghost use Rattle.rows.specs.Line.{start, Taken, Given, Puts};
+ghost use Rattle.rows.specs.inner.Step.{Ready, Drafted};
+ghost use Rattle.rows.specs.inner.Line.{start, Taken, Given, Puts};
 ghost use Rattle.rows.specs.table.Contract.{head, data42, data50};
-ghost use Rattle.contract.specs.Contract.{behind, headNumbers, numbers42, numbers50, follow, known, withData, TakenOf, agrees, disagreed, carnet, urban, PutOf, contractRead, contractWritten};
+ghost use Rattle.contract.specs.Contract.{behind, headNumbers, numbers42, numbers50, follow, known, withData, agrees, carnet, urban, contractTold, contractRead, contractWritten};
+ghost use Rattle.contract.specs.inner.Steps.{TakenOf, disagreed, PutOf};
 ghost use Rattle.records.specs.Answer.{Written};
 use records::BITS;
 use records::BYTES;
@@ -186,7 +187,7 @@ fn known(kind: u32) -> bool
 
 // The contract of a type in a lent record.
 pub fn read(bytes: &[u8], kind: u32) -> ContractRead
-    ensures { λ r. ⌜ r ≡ contractRead kind (now (bytes .entry)) ⌝ }
+    ensures { λ r. ⌜ contractTold r ≡ contractTold (contractRead kind (now (bytes .entry))) ⌝ }
 {
     if bytes.len() != BYTES {
         return ContractRead::Refused(Refusal::WRONG_LENGTH);

@@ -5,8 +5,8 @@ use mathlib.Core.Path.{_≡_, refl}
 use native.Mathlib.Omega.{arith}
 use lib.ListN.{length, getD, replicate}
 use Rattle.rows.specs.Row.{Row}
-use Rattle.rows.specs.Step.{Took, Gave}
-use Rattle.rows.specs.Line.{Taken}
+use Rattle.rows.specs.inner.Step.{Took, Gave}
+use Rattle.rows.specs.inner.Line.{Taken}
 use Rattle.rows.specs.declared.Cursor.{Cursor}
 use Rattle.rows.specs.declared.When.{When}
 use Rattle.rows.specs.declared.Rule.the-variants.{Any}

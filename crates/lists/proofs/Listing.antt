@@ -11,14 +11,15 @@ use Rattle.bits.specs.Bits.{cut, spread, zeros}
 use Rattle.bits.proofs.Cutting.{length-spread, length-cut, cut-pad}
 use Rattle.rows.specs.Row.{Row, pick, above, bit}
 use Rattle.rows.specs.Walk.{Outcome, done, refused, andThen, read, write, frame, laidOn, slots}
-use Rattle.rows.specs.Step.{said, Took, Gave, Ended, Packed}
-use Rattle.rows.specs.Line.{start, Takes, _▸_, Taken, Puts, _◂_, tells}
+use Rattle.rows.specs.inner.Step.{said, Took, Gave, Ended, Packed}
+use Rattle.rows.specs.inner.Line.{start, Takes, _▸_, Taken, Puts, _◂_, tells}
 use Rattle.rows.specs.declared.Cursor.{Cursor}
 use Rattle.rows.specs.declared.Rule.{Rule}
 use Rattle.rows.specs.declared.When.the-variants.{Bit, Above}
 use Rattle.rows.proofs.Running.{takes-read, puts-write}
 use Rattle.records.specs.Answer.{refusal, accepted, denied, written, answered}
-use Rattle.lists.specs.Listing.{obeying, obeyed, readList, writeList}
+use Rattle.lists.specs.Listing.{obeying, readList, writeList}
+use Rattle.lists.specs.inner.Steps.{obeyed}
 use Rattle.records.specs.declared.Refusal.{Refusal}
 
 -- The length of an array of structs, which the checker knows of a list mapped from it.

@@ -3,3 +3,4 @@ pub mod Listing
 pub mod List
 pub mod Special
 pub mod Entries
+pub mod inner

@@ -1,17 +1,13 @@
 -- What the contract list and the special event list share: a count and entries of so many slots each, the bitmap first and the
 -- pointer last; read and written as any record, and then held to their rule. Document 01, "Refusal numbers", the order.
 use Prim.Native.Nat.{ℕ, zero, suc, _+_}
-use mathlib.Core.List.{List, [], _∷_, _++_}
+use mathlib.Core.List.{List, [], _∷_}
 use mathlib.Core.Bool.{Bool}
-use mathlib.Core.Path.{_≡_}
 use lib.Dec.{eqb}
-use lib.ListN.{length, getD, take, drop}
+use lib.ListN.{length, getD, take}
 use Rattle.bits.specs.Bits.{spread}
 use Rattle.rows.specs.Row.{Row, pick}
 use Rattle.rows.specs.Walk.{Outcome, done, refused, andThen, read, write}
-use Rattle.rows.specs.Step.{Ready, Drafted}
-use Rattle.rows.specs.Line.{Takes, Puts}
-use Rattle.rows.specs.declared.Cursor.{Cursor}
 use Rattle.records.specs.Answer.{Written, refusal, denied, written, answered}
 use Rattle.lists.specs.Rules.{firstAtFault}
 use Rattle.records.specs.declared.Refusal.{Refusal}
@@ -31,10 +27,6 @@ atFault n size full limit vals =
 abbrev pub obeying : {A : Type 0} → ℕ → A → ℕ → Outcome A
 obeying k a end = pick (eqb k 0) (done a end) (refused 6 k 0)
 
--- The same of a cursor.
-abbrev pub obeyed : Cursor → ℕ → Cursor
-obeyed c k = pick (eqb (c .why) 0) (pick (eqb k 0) c (record { at = k; why = 6; number = 0 })) c
-
 -- Reading a list from a record: 1; 11 where its parameter is outside its limits; the walk and 5; 6.
 unfoldable pub readList : {A : Type 0} → (List ℕ → A) → (Refusal → A) → (List ℕ → ℕ) → Bool → List Row → List ℕ → A
 readList good bad fault outside rows bytes =
@@ -48,18 +40,3 @@ writeList fault outside rows vals before =
     pick (eqb (length before) 29)
     (pick outside (denied 11 0 before) (written before (andThen (write rows 232 vals) (λ bs end. obeying (fault vals) bs end))))
     (denied 1 0 before)
-
--- What the takes of an entry give, the count and the entries before it being seen, so many numbers.
-pub record EntryTook (words : List ℕ) (rows : List Row) (n count : ℕ) (c : Cursor) (vs : List ℕ) (d : Cursor) : Type 0 where
-  pub ready : Ready words 232 d
-  pub takes : (seen : List ℕ) → length seen ≡ n → getD seen 0 0 ≡ count → Takes words 232 rows seen c (seen ++ vs) d
-
--- What the puts of an entry give.
-pub record EntryGave (xs ys : List ℕ) (rows : List Row) (n count : ℕ) (c : Cursor) (vs : List ℕ) (d : Cursor) : Type 0 where
-  pub ready : Drafted ys 232 d
-  pub puts :
-      (vals seen rest : List ℕ)
-      → length seen ≡ n
-      → getD seen 0 0 ≡ count
-      → drop n vals ≡ vs ++ rest
-      → Puts 232 vals rows seen xs c (seen ++ vs) ys d

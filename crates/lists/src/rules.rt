@@ -3,7 +3,7 @@ ghost use mathlib.Core.Path.{_≡_};
 ghost use Prim.Native.Nat.{_≤_, _<_};
 ghost use lib.ListN.{length, getD, take};
 ghost use Rattle.lists.specs.Rules.{among, keeps, firstAtFault};
-ghost use Rattle.lists.specs.Listing.{obeyed};
+ghost use Rattle.lists.specs.inner.Steps.{obeyed};
 use rows::Cursor;
 
 // The width of a list's count.

@@ -29,9 +29,10 @@ use Rattle.contract.specs.declared.ContractRead.the-variants.{Read, Refused}
 use Rattle.contract.proofs.Laws.{contract-read-write, known-written, write-known}
 use Rattle.loading.specs.Blocking.{some}
 use Rattle.loading.specs.Place.{free, place, afterwards}
-use Rattle.loading.specs.Loading.{Lent, lengths, lengthsOf, entryFits, limits, unread, loaded, newEntry, placed, blocking, placing, finding, settled, loading}
-use Rattle.loading.specs.Marks.{marked, refusalOf, Marking}
-use Rattle.loading.specs.Store.{renewed, stored}
+use Rattle.loading.specs.Loading.{Lent, lengths, lengthsOf, entryFits, limits, loaded, newEntry, placed, blocking, placing, finding, settled, loading}
+use Rattle.loading.specs.inner.Unread.{unread}
+use Rattle.loading.specs.inner.Marks.{marked, refusalOf, Marking}
+use Rattle.loading.specs.inner.Store.{renewed, stored}
 use Rattle.loading.specs.declared.Order.{Order}
 use Rattle.loading.proofs.Placing.{Named, placed-free-or-erasable, place-marked}
 use Rattle.loading.proofs.Told.{blocking-never}

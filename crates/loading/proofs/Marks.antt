@@ -14,7 +14,8 @@ use borrow.Author.Tests.{eqb-true, eqb-false, eq-eqb, ne-eqb}
 use Rattle.rows.specs.Walk.{refused, read}
 use Rattle.rows.specs.table.Event.{event}
 use Rattle.records.specs.Answer.{refusal}
-use Rattle.records.specs.Event.{eventRead}
+use Rattle.records.specs.Event.{eventTold, eventRead}
+use Rattle.records.proofs.Telling.{event-one}
 use Rattle.records.specs.Order.{Attempt, got, stopped, next, recordFrom, events}
 use Rattle.records.specs.declared.Refusal.{Refusal}
 use Rattle.records.specs.declared.event.Event.{Event}
@@ -26,7 +27,7 @@ use Rattle.loading.specs.Blocking.{some, moment, blocks, namedBySpecial,
 use Rattle.loading.specs.Loading.{blocking}
 use Rattle.loading.specs.declared.Order.{Order}
 use Rattle.loading.proofs.Told.{events-never}
-use Rattle.loading.specs.Marks.{marked, Added, Marking}
+use Rattle.loading.specs.inner.Marks.{marked, Added, Marking}
 
 apart : {A : Type 0} {r : Refusal} {a : A} → stopped r ≡ got a → ⊥
 apart e = let z : _≡_ {A = ℕ} 0 1 = cc in omega arith
@@ -131,8 +132,9 @@ module _ (named : ℕ → List Event → ℕ → Bool) (names : ℕ → Event �
       })
 
 -- What was read of a part of a file is its record.
-pub part-read : (file : List ℕ) (i : ℕ) {r x : EventRead} → r ≡ eventRead (take (29 * i + 29 - 29 * i) (drop (29 * i) file)) → r ≡ x → eventRead (recordFrom file i) ≡ x
-part-read file i e f = let size : 29 * i + 29 - 29 * i ≡ 29 = omega arith in sym (rw size at e) ∙ f
+pub part-read : (file : List ℕ) (i : ℕ) {r x : EventRead} → eventTold r ≡ eventTold (eventRead (take (29 * i + 29 - 29 * i) (drop (29 * i) file))) → r ≡ x
+    → eventRead (recordFrom file i) ≡ x
+part-read file i e f = let size : 29 * i + 29 - 29 * i ≡ 29 = omega arith in sym (event-one _ _ (rw size at e)) ∙ f
 
 -- The time, in other words.
 pub at-time : (attempt : Attempt (List Event)) {time moment : ℕ} (hours : ℕ) {before after : List Bool} {r : Refusal} → time ≡ moment

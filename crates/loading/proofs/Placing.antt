@@ -11,7 +11,7 @@ use Rattle.rows.specs.Row.{pick}
 use Rattle.records.specs.Order.{Attempt, got}
 use Rattle.records.specs.declared.Refusal.{Refusal}
 use Rattle.lists.specs.declared.list.Entry.{Entry}
-use Rattle.loading.specs.Marks.{marked, Marking}
+use Rattle.loading.specs.inner.Marks.{marked, Marking}
 use Rattle.loading.specs.Place.{free, erasable, lowestFree, within, firstErasable, orElse, counterPlace, place}
 use Rattle.loading.proofs.Counted.{upto}
 use Rattle.loading.proofs.Told.{Never, no-refusal}

@@ -25,7 +25,7 @@ use Rattle.contract.specs.Contract.{contractWritten}
 use Rattle.contract.specs.declared.Contract.{Contract}
 use Rattle.loading.specs.Blocking.{some}
 use Rattle.loading.specs.Loading.{loaded, newEntry, placed}
-use Rattle.loading.specs.Store.{renewed, stored}
+use Rattle.loading.specs.inner.Store.{renewed, stored}
 use Rattle.loading.specs.declared.Order.{Order}
 
 -- Refused, a list is as it was.

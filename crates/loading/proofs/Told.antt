@@ -32,7 +32,7 @@ use Rattle.lists.proofs.Numbers.{list-number}
 use Rattle.contract.specs.Contract.{contractOf, known, tableOf, contractRead}
 use Rattle.contract.specs.declared.ContractRead.the-variants as contract
 use Rattle.loading.specs.Loading.{specials, contractGot, blocking}
-use Rattle.loading.specs.Marks.{refusalOf}
+use Rattle.loading.specs.inner.Marks.{refusalOf}
 use Rattle.loading.specs.declared.Order.{Order}
 
 pub apart : {A X : Type 0} {a : A} {r : Refusal} → got a ≡ stopped r → X

@@ -1,5 +1,4 @@
 pub mod Blocking
 pub mod Place
 pub mod Loading
-pub mod Marks
-pub mod Store
+pub mod inner

@@ -64,10 +64,6 @@ limits o records =
     && leb (o .hours) 255
     && entryFits o
 
--- The refusal that needs no reading: 1, 11, or 0 for none.
-abbrev pub unread : Order → Lengths → ℕ
-unread o l = pick (lengths o l) (pick (limits o (l .journal / 29)) 0 11) 1
-
 -- The special event list that was read, its counted entries; or the refusal.
 abbrev pub specials : SpecialRead → Attempt (List SpecialEntry)
 specials r = pick (eqb (r .refusal .number) 0) (got (take (r .list .count) (r .list .entries))) (stopped (r .refusal))
@@ -82,7 +78,7 @@ blocking o special journal records =
     next (specials (specialRead (o .s) special))
     (λ entries. next (events (length journal / 29) journal 0)
     (λ past. next (events (o .s) records 0)
-    (λ specials. got (blocked (moment (o .day) (o .minute)) (o .hours) past entries specials))))
+    (λ special-events. got (blocked (moment (o .day) (o .minute)) (o .hours) past entries special-events))))
 
 -- The new entry, with a network or without, which then is zero.
 abbrev pub newEntry : Order → ℕ → Entry
@@ -114,8 +110,8 @@ unfoldable pub placing : Order → List ℕ → Lent → Attempt Found
 placing o list lent =
     next (attempted (listRead (o .n) list))
     (λ l. next (blocking o (lent .special) (lent .journal) (lent .records))
-    (λ blocked. next (contractGot (contractRead (o .kind) (lent .new)))
-    (λ new. found (counted l) (place blocked (o .n) (o .c) (o .counter) (counted l)))))
+    (λ is-blocked. next (contractGot (contractRead (o .kind) (lent .new)))
+    (λ new. found (counted l) (place is-blocked (o .n) (o .c) (o .counter) (counted l)))))
 
 abbrev pub lengthsOf : List ℕ → List ℕ → Lent → Lengths
 lengthsOf list file lent =
@@ -142,13 +138,17 @@ pub record Outcome : Type 0 where
 abbrev pub loaded : Refusal → ℕ → List ℕ → List ℕ → Outcome
 loaded r pointer list file = record { answer = record { refusal = r; pointer = pointer }; list = list; file = file }
 
--- The list afterwards is written: 2 where it does not fit, and nothing changes.
+-- Both buffers change where the list afterwards was written, and neither where it was refused.
+abbrev pub bothOrNeither : List ℕ → List ℕ → ℕ → Written → List ℕ → Outcome
+bothOrNeither list file pointer w fileAfter =
+    pick (eqb (w .answer .number) 0) (loaded (refusal 0 0) pointer (w .bytes) fileAfter) (loaded (w .answer) 0 list file)
+
+-- The list afterwards is written, 2 where it does not fit, and the new record to its place.
 abbrev pub storing : Order → List ℕ → List ℕ → List ℕ → Found → Outcome
 storing o list file new f =
-    let w : Written = listWritten (o .n) (listing (afterwards (newEntry o (f .pointer)) (f .entries))) list in
-    pick (eqb (w .answer .number) 0)
-    (loaded (refusal 0 0) (f .pointer) (w .bytes) (placed (f .pointer) new file))
-    (loaded (w .answer) 0 list file)
+    bothOrNeither list file (f .pointer)
+    (listWritten (o .n) (listing (afterwards (newEntry o (f .pointer)) (f .entries))) list)
+    (placed (f .pointer) new file)
 
 abbrev pub settled : Order → List ℕ → List ℕ → List ℕ → Attempt Found → Outcome
 settled o list file new (got f) = storing o list file new f

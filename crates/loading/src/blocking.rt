@@ -7,7 +7,7 @@ ghost use lib.ListN.{length, take};
 ghost use Rattle.records.specs.Order.{events};
 ghost use Rattle.loading.specs.Blocking.{some, moment, recent, blocks, listed, namedBySpecial};
 ghost use Rattle.loading.specs.Loading.{blocking};
-ghost use Rattle.loading.specs.Marks.{Added, Marking};
+ghost use Rattle.loading.specs.inner.Marks.{Added, Marking};
 use crate::Order;
 use lists::special;
 use lists::special::SpecialList;

@@ -4,7 +4,7 @@ ghost use mathlib.Core.Bool.{_&&_};
 ghost use Prim.Native.Nat.{_+_, _≤_};
 ghost use lib.ListN.{length};
 ghost use Rattle.lists.specs.Entries.{counted};
-ghost use Rattle.loading.specs.Marks.{marked};
+ghost use Rattle.loading.specs.inner.Marks.{marked};
 ghost use Rattle.loading.specs.Place.{free, lowestFree, within, erasable, firstErasable, orElse, counterPlace, plainPlace, place};
 use crate::Order;
 use lists::list::ContractList;

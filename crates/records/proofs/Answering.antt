@@ -11,8 +11,8 @@ use Rattle.bits.specs.Bits.{cut, spread, zeros}
 use Rattle.bits.proofs.Cutting.{length-cut, length-spread, cut-pad}
 use Rattle.rows.specs.Row.{Row, pick}
 use Rattle.rows.specs.Walk.{Outcome, done, refused, read, write, frame, laidOn, slots}
-use Rattle.rows.specs.Step.{said, Ended, Packed}
-use Rattle.rows.specs.Line.{start, Taken, Puts, tells}
+use Rattle.rows.specs.inner.Step.{said, Ended, Packed}
+use Rattle.rows.specs.inner.Line.{start, Taken, Puts, tells}
 use Rattle.rows.specs.declared.Cursor.{Cursor}
 use Rattle.rows.proofs.Running.{takes-read, puts-write}
 use Rattle.records.specs.Answer.{refusal, accepted, denied, written, answered, readRecord, writeRecord, areaLength, readArea, writeArea}

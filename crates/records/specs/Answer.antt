@@ -1,9 +1,9 @@
 -- What operations answer, and what they leave in the bytes lent to them. Document 01, "Refusal numbers".
 use Prim.Native.Nat.{ℕ, zero, suc, _*_}
-use mathlib.Core.Bool.{Bool, true}
+use mathlib.Core.Bool.{Bool, true, false}
 use mathlib.Core.List.{List, [], _∷_}
 use lib.Dec.{eqb}
-use lib.ListN.{length, getD}
+use lib.ListN.{length, getD, replicate}
 use Rattle.bits.specs.Bits.{cut, spread}
 use Rattle.rows.specs.Row.{Row, pick}
 use Rattle.rows.specs.Walk.{Outcome, done, refused, read, write}
@@ -34,6 +34,21 @@ written before (refused n at i) = denied n at before
 abbrev pub answered : {A : Type 0} → (List ℕ → A) → (Refusal → A) → Outcome (List ℕ) → A
 answered good bad (done vals end) = good vals
 answered good bad (refused n at i) = bad (refusal n at)
+
+-- An answer that is an enum, in document 01's terms: whether it is the case that holds a value, the refusal's number and place, and
+-- the numbers of the value.
+pub record Told : Type 0 where
+  pub holds : Bool
+  pub number : ℕ
+  pub place : ℕ
+  pub values : List ℕ
+
+abbrev pub toldValue : List ℕ → Told
+toldValue values = record { holds = true; number = 0; place = 0; values = values }
+
+-- Refused, everything else is zero: so many numbers.
+abbrev pub toldRefusal : ℕ → Refusal → Told
+toldRefusal n r = record { holds = false; number = r .number; place = r .place; values = replicate n 0 }
 
 -- Reading a table from a record, which is 29 bytes: 1 else.
 unfoldable pub readRecord : {A : Type 0} → (List ℕ → A) → (Refusal → A) → List Row → List ℕ → A

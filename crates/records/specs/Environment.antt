@@ -3,7 +3,7 @@ use Prim.Native.Nat.{ℕ}
 use mathlib.Core.List.{List, [], _∷_}
 use lib.ListN.{getD}
 use Rattle.rows.specs.table.Environment.{environment}
-use Rattle.records.specs.Answer.{Written, readRecord, writeRecord}
+use Rattle.records.specs.Answer.{Written, Told, toldValue, toldRefusal, readRecord, writeRecord}
 use Rattle.records.specs.declared.environment.Environment.{Environment}
 use Rattle.records.specs.declared.environment.EnvironmentRead.{EnvironmentRead}
 use Rattle.records.specs.declared.environment.EnvironmentRead.the-variants.{Read, Refused}
@@ -36,6 +36,11 @@ environmentOf vals =
       «data_bitmap» = getD vals 8 0;
       «card_status» = getD vals 9 0;
     }
+
+-- The cases of the answer, each by its number, its place and its values.
+abbrev pub environmentTold : EnvironmentRead → Told
+environmentTold (Read e) = toldValue (numbersOf e)
+environmentTold (Refused r) = toldRefusal 10 r
 
 abbrev pub environmentRead : List ℕ → EnvironmentRead
 environmentRead bytes = readRecord (λ vals. Read (environmentOf vals)) Refused environment bytes

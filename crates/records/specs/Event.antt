@@ -3,7 +3,7 @@ use Prim.Native.Nat.{ℕ}
 use mathlib.Core.List.{List, [], _∷_}
 use lib.ListN.{getD}
 use Rattle.rows.specs.table.Event.{event}
-use Rattle.records.specs.Answer.{Written, readRecord, writeRecord}
+use Rattle.records.specs.Answer.{Written, Told, toldValue, toldRefusal, readRecord, writeRecord}
 use Rattle.records.specs.declared.event.Event.{Event}
 use Rattle.records.specs.declared.event.EventRead.{EventRead}
 use Rattle.records.specs.declared.event.EventRead.the-variants.{Read, Refused}
@@ -87,6 +87,11 @@ eventOf vals =
       trip = getD vals 34 0;
       direction = getD vals 35 0;
     }
+
+-- The cases of the answer, each by its number, its place and its values.
+abbrev pub eventTold : EventRead → Told
+eventTold (Read e) = toldValue (numbersOf e)
+eventTold (Refused r) = toldRefusal 36 r
 
 abbrev pub eventRead : List ℕ → EventRead
 eventRead bytes = readRecord (λ vals. Read (eventOf vals)) Refused event bytes

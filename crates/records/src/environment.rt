@@ -2,9 +2,9 @@
 ghost use mathlib.Core.Path.{_≡_};
 ghost use mathlib.Core.List.{[]};
 ghost use lib.ListN.{length};
-ghost use Rattle.rows.specs.Line.{start, Taken, Puts};
+ghost use Rattle.rows.specs.inner.Line.{start, Taken, Puts};
 ghost use Rattle.rows.specs.table.Environment.{environment};
-ghost use Rattle.records.specs.Environment.{environmentRead, environmentWritten, numbersOf};
+ghost use Rattle.records.specs.Environment.{environmentTold, environmentRead, environmentWritten, numbersOf};
 ghost use Rattle.records.specs.Answer.{Written};
 use crate::BITS;
 use crate::BYTES;
@@ -40,7 +40,7 @@ struct Fields {
 
 // The Environment in a lent record.
 pub fn read(bytes: &[u8]) -> EnvironmentRead
-    ensures { λ r. ⌜ r ≡ environmentRead (now (bytes .entry)) ⌝ }
+    ensures { λ r. ⌜ environmentTold r ≡ environmentTold (environmentRead (now (bytes .entry))) ⌝ }
 {
     if bytes.len() != BYTES {
         return EnvironmentRead::Refused(Refusal::WRONG_LENGTH);

@@ -2,10 +2,10 @@
 ghost use mathlib.Core.Path.{_≡_};
 ghost use mathlib.Core.List.{[]};
 ghost use lib.ListN.{length, take, drop};
-ghost use Rattle.rows.specs.Step.{Ready, Drafted};
-ghost use Rattle.rows.specs.Line.{start, Taken, Puts, Given};
+ghost use Rattle.rows.specs.inner.Step.{Ready, Drafted};
+ghost use Rattle.rows.specs.inner.Line.{start, Taken, Puts, Given};
 ghost use Rattle.rows.specs.table.Event.{event};
-ghost use Rattle.records.specs.Event.{eventRead, eventWritten, numbersOf};
+ghost use Rattle.records.specs.Event.{eventTold, eventRead, eventWritten, numbersOf};
 ghost use Rattle.records.specs.Answer.{Written};
 use crate::BITS;
 use crate::BYTES;
@@ -108,7 +108,7 @@ struct Fields {
 
 // The Event in a lent record.
 pub fn read(bytes: &[u8]) -> EventRead
-    ensures { λ r. ⌜ r ≡ eventRead (now (bytes .entry)) ⌝ }
+    ensures { λ r. ⌜ eventTold r ≡ eventTold (eventRead (now (bytes .entry))) ⌝ }
 {
     if bytes.len() != BYTES {
         return EventRead::Refused(Refusal::WRONG_LENGTH);

@@ -16,7 +16,7 @@ use Rattle.rows.proofs.Boxes.{length-there, laid-behind, length-laid}
 use Rattle.rows.proofs.Stepping.{Clear, admit-step, admitted-clear, admitted-within, there-one, there-same, total-same, box-width}
 use Rattle.rows.specs.Row.{pick, holds, broken}
 use Rattle.rows.specs.Walk.{total, there, exceeds, slotsOf, laidOn}
-use Rattle.rows.specs.Step.{admitted, Drafted, Gave, Lays, LaidAll}
+use Rattle.rows.specs.inner.Step.{admitted, Drafted, Gave, Lays, LaidAll}
 use Rattle.rows.specs.declared.Cursor.{Cursor}
 use Rattle.rows.specs.declared.When.{When}
 use Rattle.rows.specs.declared.Rule.{Rule}

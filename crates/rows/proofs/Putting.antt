@@ -9,8 +9,8 @@ use lib.ListN.{length, take, drop}
 use lib.Seq.{length-take-le, take-add}
 use Rattle.rows.specs.Row.{Row, Cond, told}
 use Rattle.rows.specs.Walk.{slots}
-use Rattle.rows.specs.Step.{Gave}
-use Rattle.rows.specs.Line.{Puts, given, _◂_}
+use Rattle.rows.specs.inner.Step.{Gave}
+use Rattle.rows.specs.inner.Line.{Puts, given, _◂_}
 use Rattle.rows.specs.declared.Cursor.{Cursor}
 use Rattle.rows.specs.declared.Rule.{Rule}
 

@@ -11,8 +11,8 @@ use lib.Seq.{drop-append-seam}
 use Rattle.bits.specs.Bits.{cut, zeros, leading}
 use Rattle.rows.specs.Row.{Row, pick, told}
 use Rattle.rows.specs.Walk.{Outcome, done, refused, andThen, walk, there, boxesAt, slotsOf, frameOn, frame, laidOn, slots, ending, read, write}
-use Rattle.rows.specs.Step.{said, resume, Ended}
-use Rattle.rows.specs.Line.{start, Takes, taken, _▸_, Puts, given, _◂_, tells}
+use Rattle.rows.specs.inner.Step.{said, resume, Ended}
+use Rattle.rows.specs.inner.Line.{start, Takes, taken, _▸_, Puts, given, _◂_, tells}
 use Rattle.rows.specs.declared.Cursor.{Cursor}
 use Rattle.rows.proofs.Boxes.{length-there, laid-append}
 

@@ -9,7 +9,7 @@ use lib.ListN.{length, replicate}
 use borrow.Author.Tests.{ltb-false, eqb-true, eqb-false}
 use Rattle.rows.specs.Row.{Row, Cond, pick, told, holds, broken}
 use Rattle.rows.specs.Walk.{done, refused, andThen, Source, walk, field, total, there, exceeds, fault}
-use Rattle.rows.specs.Step.{settled, admitted, said, resume}
+use Rattle.rows.specs.inner.Step.{settled, admitted, said, resume}
 use Rattle.rows.specs.declared.Cursor.{Cursor}
 use Rattle.rows.specs.declared.When.{When}
 use Rattle.rows.specs.declared.Rule.{Rule}

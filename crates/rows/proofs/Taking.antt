@@ -9,7 +9,8 @@ use lib.Dec.{eqb}
 use lib.ListN.{length, take, drop, set, replicate, length-drop}
 use lib.Seq.{length-take-le, drop-drop, take-suc-set}
 use borrow.Author.Tests.{eq-eqb, ne-eqb}
-use Rattle.bits.specs.Bits.{number, numberAt, cut, leading}
+use Rattle.bits.specs.Bits.{number, cut, leading}
+use Rattle.bits.specs.inner.Words.{numberAt}
 use Rattle.bits.proofs.Spelling.{number-lt}
 use Rattle.bits.proofs.Cutting.{number-at}
 use Rattle.bits.proofs.Fronts.{part, part-part, part-take}
@@ -17,7 +18,7 @@ use Rattle.rows.proofs.Boxes.{numbers-fit}
 use Rattle.rows.proofs.Stepping.{admit-step, admitted-clear, admitted-within, admitted-number, there-one, there-same, total-same, box-width}
 use Rattle.rows.specs.Row.{pick, told, holds, broken}
 use Rattle.rows.specs.Walk.{total, there, numbers, boxesAt, ending}
-use Rattle.rows.specs.Step.{admitted, resume, Ready, Took, Ended, Spells, lettersAt}
+use Rattle.rows.specs.inner.Step.{admitted, resume, Ready, Took, Ended, Spells, lettersAt}
 use Rattle.rows.specs.declared.Cursor.{Cursor}
 use Rattle.rows.specs.declared.When.{When}
 use Rattle.rows.specs.declared.Rule.{Rule}

@@ -4,7 +4,7 @@ ghost use mathlib.Core.List.{List, [], _∷_};
 ghost use Prim.Native.Nat.{ℕ, _+_, _*_, _/_, _≤_, _<_};
 ghost use lib.ListN.{length, replicate};
 ghost use Rattle.rows.specs.Walk.{exceeds};
-ghost use Rattle.rows.specs.Step.{Drafted, Gave, Lays, LaidAll, Packed};
+ghost use Rattle.rows.specs.inner.Step.{Drafted, Gave, Lays, LaidAll, Packed};
 use crate::Cursor;
 use crate::Rule;
 use crate::When;

@@ -3,7 +3,7 @@ ghost use mathlib.Core.Path.{_≡_};
 ghost use mathlib.Core.List.{[], _∷_};
 ghost use Prim.Native.Nat.{_≤_};
 ghost use Rattle.rows.specs.Row.{pick, holds, broken};
-ghost use Rattle.rows.specs.Step.{admitted};
+ghost use Rattle.rows.specs.inner.Step.{admitted};
 use crate::Cursor;
 use crate::Rule;
 use crate::When;

@@ -4,7 +4,7 @@ ghost use mathlib.Core.List.{List, [], _∷_};
 ghost use mathlib.Core.Bool.{Bool};
 ghost use Prim.Native.Nat.{ℕ, _/_, _≤_, _<_};
 ghost use lib.ListN.{length, replicate};
-ghost use Rattle.rows.specs.Step.{Ready, Took, Ended, Spells, lettersAt};
+ghost use Rattle.rows.specs.inner.Step.{Ready, Took, Ended, Spells, lettersAt};
 use crate::Cursor;
 use crate::Rule;
 use crate::When;

@@ -11,6 +11,8 @@ use Rattle.records.specs.declared.Refusal.{Refusal}
 use Rattle.loading.specs.Loading.{Outcome}
 use Rattle.loading.specs.declared.Loaded.{Loaded}
 use Rattle.text.specs.Hex.{choose, spelt}
+use Rattle.records.proofs.Telling.{environment-one, event-one}
+use Rattle.contract.proofs.Telling.{contract-one}
 use Rattle.samples.specs.All.{All, _&_}
 
 -- What an operation is given, how a call of it can end, which ends its contract allows, and what an end tells: the answer and the
@@ -101,9 +103,11 @@ same-by contents p q =
 pub all-one : All OneAnswer operations
 unfolding operations
 all-one =
-    (λ g x y. same) & (λ g x y. same) & (λ g x y. same) & (λ g x y. same) & (λ g x y. same) & (λ g x y. same)
+    (λ g x y p q. environment-one _ _ (same p q)) & (λ g x y. same)
+    & (λ g x y p q. event-one _ _ (same p q)) & (λ g x y. same) & (λ g x y. same) & (λ g x y. same)
     & (λ g x y. same) & (λ g x y. same) & (λ g x y. same) & (λ g x y. same) & (λ g x y. same) & (λ g x y. same)
-    & (λ g x y. same) & (λ g x y. same) & (λ g x y. same) & (λ g x y. same) & (λ g x y. same) & (λ g x y. same)
+    & (λ g x y. same) & (λ g x y. same) & (λ g x y. same) & (λ g x y. same) & (λ g x y. same)
+    & (λ g x y p q. contract-one _ _ (same p q))
     & (λ g x y. same) & (λ g x y. same) & (λ g x y. same) & (λ g x y. same) & (λ g x y. same) & (λ g x y. same)
     & (λ g x y. same) & (λ g x y. same)
     & (λ g x y. same-by (λ r. choose r (spelt (length (now (g .1 .1 .0))) (now (g .1 .0))) (now (g .1 .1 .0))))

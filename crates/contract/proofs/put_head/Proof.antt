@@ -1,6 +1,6 @@
 use mathlib.Core.Path.{_∙_}
 use lib.Dec.{lit<, lit≤}
-use Rattle.rows.specs.Line.{given, _◂_}
+use Rattle.rows.specs.inner.Line.{given, _◂_}
 use Rattle.rows.specs.table.Contract.{head}
 use borrow.Author.Needs.{needs}
 use Rattle.contract.proofs.put_head.Statement.{statement}

@@ -2,6 +2,7 @@ use mathlib.Core.Path.{_≡_, sym, ap, _∙_}
 use lib.ListN.{length}
 use borrow.Author.Tests.{eq-eqb, ne-eqb, not-true, not-false}
 use Rattle.bits.specs.Bits.{cut, spread}
+use Rattle.contract.specs.Contract.{contractTold}
 use Rattle.contract.specs.declared.ContractRead.the-variants.{Read}
 use Rattle.records.proofs.Answering.{record-read, record-refused}
 use borrow.Author.Needs.{needs}
@@ -44,7 +45,7 @@ returns-3 c =
     let known = sym (c .before .before .before .before .before .before .before .before .before .before .before .known .ensures) ∙ not-false _ (c .before .before .before .before .before .before .before .before .before .before .if2 .left) in
     let fields = c .before .before .before .before .before .take-fields .ensures in
     rw (eq-eqb _ _ whole, known)
-    (record-refused _ _ _ bytes words _ _ _ whole cuts (fields .taken) (c .before .before .end .ensures) (c .if3 .taken))
+    (ap contractTold (record-refused _ _ _ bytes words _ _ _ whole cuts (fields .taken) (c .before .before .end .ensures) (c .if3 .taken)))
 
 returns-4 : tie.Need-returns-4
 returns-4 c =
@@ -55,7 +56,7 @@ returns-4 c =
     let known = sym (c .before .before .before .before .before .before .before .before .before .before .before .before .known .ensures) ∙ not-false _ (c .before .before .before .before .before .before .before .before .before .before .before .if2 .left) in
     let fields = c .before .before .before .before .before .before .take-fields .ensures in
     rw (eq-eqb _ _ whole, known)
-    (ap Read (sym (fields .made)) ∙ record-read _ _ _ bytes words _ _ _ whole cuts (fields .taken) (c .before .before .before .end .ensures) (c .before .if3 .left))
+    (ap contractTold (ap Read (sym (fields .made)) ∙ record-read _ _ _ bytes words _ _ _ whole cuts (fields .taken) (c .before .before .before .end .ensures) (c .before .if3 .left)))
 
 pub read-spec : {M : Type 1} → statement M
 read-spec =

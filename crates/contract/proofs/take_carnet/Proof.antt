@@ -1,5 +1,5 @@
 use lib.Dec.{lit≤}
-use Rattle.rows.specs.Line.{taken, _▸_}
+use Rattle.rows.specs.inner.Line.{taken, _▸_}
 use Rattle.rows.specs.table.Contract.{data42}
 use Rattle.contract.proofs.take_carnet.Statement.{statement}
 use Rattle.contract.proofs.take_carnet.Tie as tie

@@ -1,5 +1,5 @@
 use lib.Dec.{lit≤}
-use Rattle.rows.specs.Line.{given, _◂_}
+use Rattle.rows.specs.inner.Line.{given, _◂_}
 use Rattle.rows.specs.table.Holder.{holder}
 use borrow.Author.Needs.{needs}
 use Rattle.holder.proofs.put_identity.Statement.{statement}

@@ -1,5 +1,5 @@
 use mathlib.Core.Path.{_∙_}
-use Rattle.rows.specs.Line.{given, _◂_}
+use Rattle.rows.specs.inner.Line.{given, _◂_}
 use Rattle.rows.specs.table.Holder.{holder}
 use lib.Dec.{lit≤}
 use Rattle.holder.specs.Holder.{Spelled}

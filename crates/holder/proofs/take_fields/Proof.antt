@@ -1,10 +1,10 @@
 use Prim.Native.Nat.{ℕ}
 use mathlib.Core.List.{List, []}
 use lib.ListN.{drop}
-use Rattle.rows.specs.Line.{_▸_}
+use Rattle.rows.specs.inner.Line.{_▸_}
 use Rattle.rows.specs.table.Holder.{holder}
 use Rattle.rows.proofs.Running.{takes-append}
-use Rattle.holder.specs.Holder.{partsNumbers}
+use Rattle.holder.specs.inner.Steps.{partsNumbers}
 use Rattle.holder.proofs.Letters.{renamed}
 use borrow.Author.Needs.{needs}
 use Rattle.holder.proofs.take_fields.Statement.{statement}

@@ -1,6 +1,8 @@
-use Rattle.loading.specs.Loading.{Lent, lengthsOf, unread}
+use Rattle.loading.specs.Loading.{Lent, lengthsOf}
+use Rattle.loading.specs.inner.Unread.{unread}
 use Rattle.loading.proofs.Ending.{Card, unread-none, place-inside, refused-unread, refused-list, refused-events, refused-contract, loads}
 use mathlib.Core.Path.{_≡_, refl, sym, _∙_}
+use Rattle.contract.proofs.Telling.{contract-one}
 use borrow.Author.Needs.{needs}
 use Rattle.loading.proofs.load.Statement.{statement}
 use Rattle.loading.proofs.load.Tie as tie
@@ -96,7 +98,7 @@ same-length-4 c = search needs
 returns-4 : tie.Need-returns-4
 returns-4 c =
     let card = cardOf (c .before .before .before .before .before .before .before .before .before .before .before .before .before .before .before .before .before .before .before .before .before .before .before .before .before .before .before .before .before .before) (sym (c .before .before .before .before .before .before .before .before .before .before .before .before .before .before .before .before .before .before .before .before .before .before .before .refused-unread .ensures) ∙ c .before .before .before .before .before .before .before .before .before .before .before .before .before .before .before .before .before .before .before .before .before .before .if1 .left) in
-    c .before .before .before .before .store .ensures ∙ loads _ _ _ _ card _ (c .before .before .before .before .before .before .before .before .before .before .before .before .before .before .before .before .before .before .before .before .read .ensures) (c .before .before .before .before .before .before .before .before .before .before .before .before .before .before .before .before .before .before .if2 .left) (c .before .before .before .before .before .before .before .before .before .before .before .before .before .before .before .before .mark-all .ensures) (c .before .before .before .before .before .before .before .before .before .before .before .before .before .if3 .left) _ _ (sym (c .before .before .before .before .before .before .before .before .before .before .before .before .read2 .ensures) ∙ c .before .before .before .before .before .before .before .before .before .before .contract .given .1) (λ i. c .before .before .before .before .before .before .before .before .before .before .before .before .before .before .before .before .before .before .before .before .before .before .before .before .shared-slice-known4 .given i .fits) (c .before .before .before .before .before .before .before .place .ensures)
+    c .before .before .before .before .store .ensures ∙ loads _ _ _ _ card _ (c .before .before .before .before .before .before .before .before .before .before .before .before .before .before .before .before .before .before .before .before .read .ensures) (c .before .before .before .before .before .before .before .before .before .before .before .before .before .before .before .before .before .before .if2 .left) (c .before .before .before .before .before .before .before .before .before .before .before .before .before .before .before .before .mark-all .ensures) (c .before .before .before .before .before .before .before .before .before .before .before .before .before .if3 .left) _ _ (sym (contract-one _ _ (c .before .before .before .before .before .before .before .before .before .before .before .before .read2 .ensures)) ∙ c .before .before .before .before .before .before .before .before .before .before .contract .given .1) (λ i. c .before .before .before .before .before .before .before .before .before .before .before .before .before .before .before .before .before .before .before .before .before .before .before .before .shared-slice-known4 .given i .fits) (c .before .before .before .before .before .before .before .place .ensures)
 
 same-length-5 : tie.Need-same-length-5
 same-length-5 c = search needs
@@ -104,7 +106,7 @@ same-length-5 c = search needs
 returns-5 : tie.Need-returns-5
 returns-5 c =
     let card = cardOf (c .before .before .before .before .before .before .before .before .before .before .before .before .before .before .before .before .before .before .before .before .before .before) (sym (c .before .before .before .before .before .before .before .before .before .before .before .before .before .before .before .refused-unread .ensures) ∙ c .before .before .before .before .before .before .before .before .before .before .before .before .before .before .if1 .left) in
-    rw (c .refused4 .ensures) (refused-contract _ _ _ _ card _ (c .before .before .before .before .before .before .before .before .before .before .before .before .read .ensures) (c .before .before .before .before .before .before .before .before .before .before .if2 .left) (c .before .before .before .before .before .before .before .before .mark-all .ensures) (c .before .before .before .before .before .if3 .left) _ (sym (c .before .before .before .before .read2 .ensures) ∙ c .before .before .refusal .given .1))
+    rw (c .refused4 .ensures) (refused-contract _ _ _ _ card _ (c .before .before .before .before .before .before .before .before .before .before .before .before .read .ensures) (c .before .before .before .before .before .before .before .before .before .before .if2 .left) (c .before .before .before .before .before .before .before .before .mark-all .ensures) (c .before .before .before .before .before .if3 .left) _ (sym (contract-one _ _ (c .before .before .before .before .read2 .ensures)) ∙ c .before .before .refusal .given .1))
 
 pub load-spec : {M : Type 1} → statement M
 load-spec =

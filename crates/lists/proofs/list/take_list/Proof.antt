@@ -1,5 +1,5 @@
 use mathlib.Core.Path.{refl}
-use Rattle.rows.specs.Line.{_▸_}
+use Rattle.rows.specs.inner.Line.{_▸_}
 use Rattle.rows.proofs.Running.{takes-append}
 use Rattle.rows.specs.table.BestContracts.{contractList}
 use borrow.Author.Needs.{needs}

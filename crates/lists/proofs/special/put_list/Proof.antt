@@ -1,6 +1,6 @@
 use mathlib.Core.Path.{refl, _∙_}
 use Rattle.rows.specs.table.Special.{specialList}
-use Rattle.rows.specs.Line.{_◂_}
+use Rattle.rows.specs.inner.Line.{_◂_}
 use Rattle.rows.proofs.Running.{puts-append}
 use borrow.Author.Needs.{needs}
 use Rattle.lists.proofs.special.put_list.Statement.{statement}

@@ -1,5 +1,5 @@
 use mathlib.Core.List.{[], _∷_}
-use Rattle.rows.specs.Line.{taken}
+use Rattle.rows.specs.inner.Line.{taken}
 use Rattle.lists.proofs.Listing.{take-bitmap, take-element}
 use borrow.Author.Needs.{needs}
 use Rattle.lists.proofs.special.take_entry.Statement.{statement}

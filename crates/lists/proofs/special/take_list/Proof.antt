@@ -1,6 +1,6 @@
 use mathlib.Core.Path.{refl}
 use Rattle.rows.specs.table.Special.{specialList}
-use Rattle.rows.specs.Line.{_▸_}
+use Rattle.rows.specs.inner.Line.{_▸_}
 use Rattle.rows.proofs.Running.{takes-append}
 use borrow.Author.Needs.{needs}
 use Rattle.lists.proofs.special.take_list.Statement.{statement}

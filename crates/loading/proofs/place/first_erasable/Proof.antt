@@ -5,7 +5,7 @@ use lib.ListN.{length, drop}
 use borrow.Author.Needs.{needs}
 use Rattle.lists.specs.Entries.{counted}
 use Rattle.lists.proofs.Listing.{length-of-map}
-use Rattle.loading.specs.Marks.{marked}
+use Rattle.loading.specs.inner.Marks.{marked}
 use Rattle.loading.specs.Place.{firstErasable}
 use Rattle.loading.proofs.Counted.{erasable-more, none-left}
 use Rattle.loading.proofs.place.first_erasable.Statement.{statement}

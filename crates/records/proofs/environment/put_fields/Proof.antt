@@ -1,6 +1,6 @@
 use mathlib.Core.Path.{_∙_}
 use lib.Dec.{lit<, lit≤}
-use Rattle.rows.specs.Line.{given, _◂_}
+use Rattle.rows.specs.inner.Line.{given, _◂_}
 use Rattle.rows.specs.table.Environment.{environment}
 use borrow.Author.Needs.{needs}
 use Rattle.records.proofs.environment.put_fields.Statement.{statement}

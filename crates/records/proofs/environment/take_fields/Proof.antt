@@ -1,5 +1,5 @@
 use lib.Dec.{lit<, lit≤}
-use Rattle.rows.specs.Line.{taken, _▸_}
+use Rattle.rows.specs.inner.Line.{taken, _▸_}
 use Rattle.rows.specs.table.Environment.{environment}
 use borrow.Author.Needs.{needs}
 use Rattle.records.proofs.environment.take_fields.Statement.{statement}

@@ -1,5 +1,5 @@
 use lib.Dec.{lit<, lit≤}
-use Rattle.rows.specs.Line.{taken, _▸_}
+use Rattle.rows.specs.inner.Line.{taken, _▸_}
 use Rattle.rows.specs.table.Event.{event}
 use Rattle.records.proofs.event.take_journey.Statement.{statement}
 use Rattle.records.proofs.event.take_journey.Tie as tie

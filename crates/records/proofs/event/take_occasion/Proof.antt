@@ -1,5 +1,5 @@
 use lib.Dec.{lit<, lit≤}
-use Rattle.rows.specs.Line.{taken, _▸_}
+use Rattle.rows.specs.inner.Line.{taken, _▸_}
 use Rattle.rows.specs.table.Event.{event}
 use borrow.Author.Needs.{needs}
 use Rattle.records.proofs.event.take_occasion.Statement.{statement}

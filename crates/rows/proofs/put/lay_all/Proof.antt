@@ -5,7 +5,7 @@ use native.Mathlib.Nat.{mul-le-mul-left}
 use lib.ListN.{length, take}
 use lib.Seq.{take-all}
 use borrow.Author.Needs.{needs}
-use Rattle.rows.specs.Step.{LaidAll}
+use Rattle.rows.specs.inner.Step.{LaidAll}
 use Rattle.rows.proofs.Giving.{fits-at, laid-more}
 use Rattle.rows.proofs.put.lay_all.Statement.{statement}
 use Rattle.rows.proofs.put.lay_all.Tie as tie

@@ -11,7 +11,7 @@ use lib.ListN.{length, take}
 use native.Mathlib.Omega.{arith}
 use native.Mathlib.Nat.{mul-le-mul-left}
 use borrow.Author.Needs.{needs}
-use Rattle.rows.specs.Step.{lettersAt}
+use Rattle.rows.specs.inner.Step.{lettersAt}
 use Rattle.rows.proofs.Taking.{spelt-more}
 use Rattle.rows.proofs.take.spell.Statement.{statement}
 use Rattle.rows.proofs.take.spell.Tie as tie

@@ -5,7 +5,8 @@ use mathlib.Core.Bool.{Bool, false}
 use mathlib.Core.Path.{_≡_}
 use lib.Dec.{eqb}
 use lib.ListN.{length, take, drop, replicate}
-use Rattle.bits.specs.Bits.{cut, numberAt}
+use Rattle.bits.specs.Bits.{cut}
+use Rattle.bits.specs.inner.Words.{numberAt}
 use Rattle.rows.specs.Row.{Row, Cond, pick, told}
 use Rattle.rows.specs.Walk.{Outcome, done, refused, andThen, Source, walk, fault, there, boxesAt, slotsOf, laidOn, exceeds, ending}
 use Rattle.rows.specs.declared.Cursor.{Cursor}

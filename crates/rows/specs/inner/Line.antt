@@ -6,7 +6,7 @@ use lib.Dec.{eqb}
 use lib.ListN.{length, take, drop}
 use Rattle.rows.specs.Row.{Row, Cond, pick, told}
 use Rattle.rows.specs.Walk.{Outcome, done, refused}
-use Rattle.rows.specs.Step.{Ready, Took, Drafted, Gave}
+use Rattle.rows.specs.inner.Step.{Ready, Took, Drafted, Gave}
 use Rattle.rows.specs.declared.Cursor.{Cursor}
 use Rattle.rows.specs.declared.Rule.{Rule}
 

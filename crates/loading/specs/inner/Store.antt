@@ -3,14 +3,14 @@ use Prim.Native.Nat.{ℕ, _-_}
 use mathlib.Core.List.{List}
 use lib.Dec.{eqb}
 use Rattle.rows.specs.Row.{pick}
-use Rattle.records.specs.Answer.{Written, refusal}
+use Rattle.records.specs.Answer.{refusal}
 use Rattle.records.specs.Order.{recordFrom}
 use Rattle.lists.specs.List.{listWritten}
 use Rattle.lists.specs.Entries.{counted, listing, without, appended}
 use Rattle.lists.specs.declared.list.ContractList.{ContractList}
 use Rattle.contract.specs.Contract.{contractWritten}
 use Rattle.contract.specs.declared.Contract.{Contract}
-use Rattle.loading.specs.Loading.{Outcome, loaded, newEntry, placed}
+use Rattle.loading.specs.Loading.{Outcome, loaded, bothOrNeither, newEntry, placed}
 use Rattle.loading.specs.declared.Order.{Order}
 
 -- The old list without the pointer's entry, and with the new one.
@@ -21,13 +21,7 @@ renewed o old pointer = appended (newEntry o pointer) (listing (without pointer 
 abbrev pub fileWith : Order → Contract → ℕ → List ℕ → List ℕ
 fileWith o new pointer file = placed pointer (contractWritten (o .kind) new (recordFrom file (pointer - 1)) .bytes) file
 
-abbrev pub storedAs : Order → List ℕ → List ℕ → Contract → ℕ → Written → Outcome
-storedAs o list file new pointer w =
-    pick (eqb (w .answer .number) 0)
-    (loaded (refusal 0 0) pointer (w .bytes) (fileWith o new pointer file))
-    (loaded (w .answer) 0 list file)
-
 unfoldable pub stored : Order → List ℕ → List ℕ → ContractList → Contract → ℕ → Outcome
 stored o list file old new pointer =
     pick (eqb pointer 0) (loaded (refusal 9 0) 0 list file)
-    (storedAs o list file new pointer (listWritten (o .n) (renewed o old pointer) list))
+    (bothOrNeither list file pointer (listWritten (o .n) (renewed o old pointer) list) (fileWith o new pointer file))

@@ -1,0 +1,38 @@
+-- What the answer to a reading tells is the whole of it: answers that tell the same are equal.
+use Prim.Native.Nat.{ℕ}
+use mathlib.Core.List.{List, _++_}
+use mathlib.Core.Path.{_≡_, refl}
+use lib.Dec.{eqb}
+use lib.ListN.{getD, take, drop}
+use Rattle.rows.specs.Row.{pick}
+use Rattle.records.specs.Answer.{Told, refusal}
+use Rattle.records.proofs.Telling.{told-one}
+use Rattle.contract.specs.Contract.{headOf, withData, data42Of, data50Of, isCarnet, isUrban, contractTold}
+use Rattle.contract.specs.declared.Contract.{Contract}
+use Rattle.contract.specs.declared.Data.{Data}
+use Rattle.contract.specs.declared.Data.the-variants.{Nothing, Carnet, Urban}
+use Rattle.contract.specs.declared.ContractRead.{ContractRead}
+use Rattle.contract.specs.declared.ContractRead.the-variants.{Read, Refused}
+
+-- The data of a type and of the slots behind the head.
+abbrev data-back : ℕ → List ℕ → Data
+data-back kind vals = pick (isCarnet kind) (Carnet (data42Of vals)) (pick (isUrban kind) (Urban (data50Of vals)) Nothing)
+
+-- The type stands behind the head.
+abbrev contract-back : Told → ContractRead
+contract-back t =
+    pick (t .holds)
+    (Read (withData (headOf (t .values)) (data-back (getD (t .values) 9 0) (take 9 (t .values) ++ drop 10 (t .values)))))
+    (Refused (refusal (t .number) (t .place)))
+
+contract-returned : (r : ContractRead) → contract-back (contractTold r) ≡ r
+contract-returned (Read c) = go (c .«data»)
+  where
+    go : (d : Data) → contract-back (contractTold (Read (withData c d))) ≡ Read (withData c d)
+    go Nothing = refl
+    go (Carnet d) = refl
+    go (Urban d) = refl
+contract-returned (Refused r) = refl
+
+pub contract-one : (r s : ContractRead) → contractTold r ≡ contractTold s → r ≡ s
+contract-one = told-one contractTold contract-back contract-returned

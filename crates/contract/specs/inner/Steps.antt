@@ -1,0 +1,34 @@
+-- What the steps of a contract's reader and writer give.
+use Prim.Native.Nat.{ℕ}
+use mathlib.Core.Bool.{true, false}
+use mathlib.Core.List.{List, []}
+use mathlib.Core.Path.{_≡_}
+use lib.Dec.{eqb}
+use Rattle.rows.specs.Row.{pick}
+use Rattle.rows.specs.inner.Line.{start, Taken, Puts}
+use Rattle.rows.specs.declared.Cursor.{Cursor}
+use Rattle.rows.specs.table.Contract.{head}
+use Rattle.contract.specs.Contract.{tableOf, contractOf, headNumbers, numbersOf, agrees}
+use Rattle.contract.specs.declared.Contract.{Contract}
+
+-- The takes of a contract of a type: they took the numbers of its table, and the value is made of these.
+pub record TakenOf (words : List ℕ) (kind : ℕ) (value : Contract) (last : Cursor) : Type 0 where
+  pub all : List ℕ
+  pub taken : Taken words 232 (tableOf kind) [] start all last
+  pub made : contractOf kind all ≡ value
+
+-- A cursor behind the head, where the data do not agree.
+abbrev pub disagreed : Cursor → Cursor
+disagreed e = pick (eqb (e .why) 0) (record { at = e .at; why = 7; number = 0 }) e
+
+-- The puts of the head alone, for data that do not agree.
+pub record PutHead (c : Contract) (xs : List ℕ) (d : Cursor) : Type 0 where
+  pub draft : List ℕ
+  pub last : Cursor
+  pub puts : Puts 232 (headNumbers c) head [] xs start (headNumbers c) draft last
+  pub stops : d ≡ disagreed last
+
+-- The puts of a contract under a type.
+pub record PutOf (kind : ℕ) (c : Contract) (xs ys : List ℕ) (d : Cursor) : Type 0 where
+  pub agreed : agrees kind c ≡ true → Puts 232 (numbersOf kind c) (tableOf kind) [] xs start (numbersOf kind c) ys d
+  pub opposed : agrees kind c ≡ false → PutHead c xs d

@@ -1,0 +1,29 @@
+-- What the steps of both lists' readers and writers give.
+use Prim.Native.Nat.{ℕ}
+use mathlib.Core.List.{List, _++_}
+use mathlib.Core.Path.{_≡_}
+use lib.Dec.{eqb}
+use lib.ListN.{length, getD, drop}
+use Rattle.rows.specs.Row.{Row, pick}
+use Rattle.rows.specs.inner.Step.{Ready, Drafted}
+use Rattle.rows.specs.inner.Line.{Takes, Puts}
+use Rattle.rows.specs.declared.Cursor.{Cursor}
+
+-- After all else a cursor stands at the entry at fault, with 6; 0 for none.
+abbrev pub obeyed : Cursor → ℕ → Cursor
+obeyed c k = pick (eqb (c .why) 0) (pick (eqb k 0) c (record { at = k; why = 6; number = 0 })) c
+
+-- What the takes of an entry give, the count and the entries before it being seen, so many numbers.
+pub record EntryTook (words : List ℕ) (rows : List Row) (n count : ℕ) (c : Cursor) (vs : List ℕ) (d : Cursor) : Type 0 where
+  pub ready : Ready words 232 d
+  pub takes : (seen : List ℕ) → length seen ≡ n → getD seen 0 0 ≡ count → Takes words 232 rows seen c (seen ++ vs) d
+
+-- What the puts of an entry give.
+pub record EntryGave (xs ys : List ℕ) (rows : List Row) (n count : ℕ) (c : Cursor) (vs : List ℕ) (d : Cursor) : Type 0 where
+  pub ready : Drafted ys 232 d
+  pub puts :
+      (vals seen rest : List ℕ)
+      → length seen ≡ n
+      → getD seen 0 0 ≡ count
+      → drop n vals ≡ vs ++ rest
+      → Puts 232 vals rows seen xs c (seen ++ vs) ys d
