@@ -12,6 +12,7 @@ ghost use Rattle.contract.specs.inner.Steps.{TakenOf, disagreed, PutOf};
 ghost use Rattle.records.specs.Answer.{Written};
 use records::BITS;
 use records::BYTES;
+use records::LAST_MINUTE;
 use records::Refusal;
 use rows::Cursor;
 use rows::When;
@@ -19,7 +20,6 @@ use rows::put;
 use rows::take;
 
 // The last minute of a day.
-const LAST_MINUTE: u32 = 1439;
 
 // The data of type 42h.
 pub struct Data42 {

@@ -7,10 +7,8 @@ ghost use Rattle.bits.specs.Bits.{spread, leading, join as joined};
 ghost use Rattle.gate.specs.Writes.{applying, finding, joining, applied, only, writesOf};
 use records::BITS;
 use records::BYTES;
+use records::MOST_RECORDS;
 use records::Refusal;
-
-// The most writes that one call takes.
-pub const MOST: usize = 15;
 
 // Raises in the lent record every bit that is one in a lent write.
 pub fn apply(record: &mut [u8], writes: &[u8]) -> Refusal
@@ -23,7 +21,7 @@ pub fn apply(record: &mut [u8], writes: &[u8]) -> Refusal
         return Refusal::WRONG_LENGTH;
     }
     let n = writes.len() / BYTES;
-    if MOST < n {
+    if MOST_RECORDS < n {
         return Refusal::OUTSIDE_LIMITS;
     }
     raise_all(record, writes, n);
@@ -37,7 +35,7 @@ fn raise_all(record: &mut [u8], writes: &[u8], n: usize)
 {
     let mut k = 0;
     while k < n {
-        raise(record, &writes[29 * k..29 * k + 29]);
+        raise(record, &writes[BYTES * k..BYTES * k + BYTES]);
         k += 1;
     }
 }

@@ -51,16 +51,26 @@ impl Entry {
 
     pub const ERASABLE: u32 = 15;
 
-    // Widths.
+    pub const LAST_PRIORITY: u32 = ListTariff::PRIORITIES - 1;
+
+    // Operator keys: open to all, an operator's own up to the last of these, the contract's provider's.
+    pub const OPEN_KEY: u32 = 0;
+
+    pub const LAST_OWN_KEY: u32 = 14;
+
+    pub const PROVIDER_KEY: u32 = 15;
+
+    pub const LAST_KEY: u32 = ListTariff::KEYS - 1;
+
+    pub const LAST_KIND: u32 = ListTariff::KINDS - 1;
+
+    // How many networks there are in their width.
+    pub const NETWORKS: u32 = 1 << Entry::NETWORK_BITS;
+
+    // Widths; those of the tariff's numbers are ListTariff's.
     pub const BITMAP_BITS: u32 = 3;
 
     pub const NETWORK_BITS: u32 = 24;
-
-    pub const KEY_BITS: u32 = 4;
-
-    pub const KIND_BITS: u32 = 8;
-
-    pub const PRIORITY_BITS: u32 = 4;
 
     pub const POINTER_BITS: u32 = 5;
 

@@ -13,7 +13,11 @@ use contract::ContractRead;
 use lists::list;
 use lists::list::ContractList;
 use lists::list::Entry;
+use lists::special::SpecialList;
 use records::BYTES;
+use records::LAST_DAY;
+use records::LAST_MINUTE;
+use records::MOST_RECORDS;
 use records::Refusal;
 
 // The card, the time, and the new contract's entry.
@@ -53,6 +57,11 @@ struct Lengths {
 }
 
 impl Order {
+    // The most counter positions, and hours that a journal event blocks.
+    pub const MOST_COUNTERS: u32 = 4;
+
+    pub const MOST_HOURS: u32 = 255;
+
     // The refusal that needs no reading: 1, 11, or 0 for none.
     fn refused_unread(self, lent: Lengths) -> u32
         ensures { λ r. ⌜ r ≡ unread self lent ⌝ }
@@ -81,23 +90,23 @@ impl Order {
         ensures { λ r. ⌜ r ≡ limits self journal ⌝ }
     {
         (1 <= self.n)
-            & (self.n <= 8)
-            & (self.c <= 4)
+            & (self.n <= ContractList::MOST)
+            & (self.c <= Order::MOST_COUNTERS)
             & (self.c <= self.n)
-            & (self.s <= 4)
-            & (journal <= 15)
-            & (self.day <= 16383)
-            & (self.minute <= 1439)
-            & (self.hours <= 255)
+            & (self.s <= SpecialList::MOST)
+            & (journal <= MOST_RECORDS)
+            & (self.day <= LAST_DAY)
+            & (self.minute <= LAST_MINUTE)
+            & (self.hours <= Order::MOST_HOURS)
             & self.entry_in_limits()
     }
 
     fn entry_in_limits(self) -> bool
         ensures { λ r. ⌜ r ≡ entryFits self ⌝ }
     {
-        (self.key <= 15)
-            & (self.kind <= 255)
-            & (self.priority <= 15)
+        (self.key <= Entry::LAST_KEY)
+            & (self.kind <= Entry::LAST_KIND)
+            & (self.priority <= Entry::LAST_PRIORITY)
             & (self.priority != Entry::UNDEFINED)
             & self.network_in_limits()
     }
@@ -107,7 +116,7 @@ impl Order {
         ensures { λ r. ⌜ r ≡ networkFits self ⌝ }
     {
         if self.has_network {
-            return self.network < 16777216;
+            return self.network < Entry::NETWORKS;
         }
         self.network == 0
     }

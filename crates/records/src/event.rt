@@ -9,6 +9,7 @@ ghost use Rattle.records.specs.Event.{eventTold, eventRead, eventWritten
 ghost use Rattle.records.specs.Answer.{Written};
 use crate::BITS;
 use crate::BYTES;
+use crate::LAST_MINUTE;
 use crate::Refusal;
 use rows::Cursor;
 use rows::When;
@@ -56,6 +57,9 @@ pub struct Event {
 
 impl Event {
     // All fields absent, on day 0 at minute 0.
+    // The highest contract pointer, a simple right.
+    pub const LAST_POINTER: u32 = 19;
+
     pub const ZERO: Event = Event {
         date: 0,
         minute: 0,
@@ -143,7 +147,7 @@ fn take_occasion(words: &[u64]) -> Fields
     ensures { λ r. ⌜ Taken (now (words .entry)) 232 (take 12 event) [] start (take 12 (numbersOf (r .value))) (r .last) ⌝ }
 {
     let date = take::number(words, BITS, Cursor::START, When::Always, 14);
-    let minute = take::at_most(words, BITS, date, When::Always, 11, 1439);
+    let minute = take::at_most(words, BITS, date, When::Always, 11, LAST_MINUTE);
     let bitmap = take::number(words, BITS, minute, When::Always, 28);
     let display_data = take::number(words, BITS, bitmap, When::Bit(bitmap.number, 0), 8);
     let network = take::number(words, BITS, display_data, When::Bit(bitmap.number, 1), 24);
@@ -220,12 +224,26 @@ fn take_account(words: &[u64], fields: Fields) -> Fields
     let distance = take::number(words, BITS, total_journeys, When::Bit(e.bitmap, 22), 16);
     let price = take::number(words, BITS, distance, When::Bit(e.bitmap, 23), 16);
     let price_unit = take::number(words, BITS, price, When::Bit(e.bitmap, 24), 16);
-    let pointer = take::at_most(words, BITS, price_unit, When::Bit(e.bitmap, 25), 5, 19);
+    let pointer = take::at_most(
+        words,
+        BITS,
+        price_unit,
+        When::Bit(e.bitmap, 25),
+        5,
+        Event::LAST_POINTER,
+    );
     let authenticator = take::number(words, BITS, pointer, When::Bit(e.bitmap, 26), 16);
     let data_bitmap = take::number(words, BITS, authenticator, When::Bit(e.bitmap, 27), 5);
     let inner = data_bitmap.number;
     let first_date = take::number(words, BITS, data_bitmap, When::Bit(inner, 0), 14);
-    let first_minute = take::at_most(words, BITS, first_date, When::Bit(inner, 1), 11, 1439);
+    let first_minute = take::at_most(
+        words,
+        BITS,
+        first_date,
+        When::Bit(inner, 1),
+        11,
+        LAST_MINUTE,
+    );
     let simulation = take::number(words, BITS, first_minute, When::Bit(inner, 2), 1);
     let trip = take::number(words, BITS, simulation, When::Bit(inner, 3), 2);
     let direction = take::number(words, BITS, trip, When::Bit(inner, 4), 2);
@@ -280,7 +298,7 @@ fn put_occasion(draft: &mut [u64], e: Event) -> Cursor
     ensures { λ d. ⌜ Given 232 (numbersOf e) (take 12 event) [] (now (draft .entry)) start (take 12 (numbersOf e)) (now (draft .exit)) d ⌝ }
 {
     let mut d = put::number(draft, BITS, Cursor::START, When::Always, 14, e.date);
-    d = put::at_most(draft, BITS, d, When::Always, 11, 1439, e.minute);
+    d = put::at_most(draft, BITS, d, When::Always, 11, LAST_MINUTE, e.minute);
     d = put::number(draft, BITS, d, When::Always, 28, e.bitmap);
     d = put::number(draft, BITS, d, When::Bit(e.bitmap, 0), 8, e.display_data);
     d = put::number(draft, BITS, d, When::Bit(e.bitmap, 1), 24, e.network);
@@ -340,7 +358,15 @@ fn put_account(draft: &mut [u64], c: Cursor, e: Event) -> Cursor
     d = put::number(draft, BITS, d, When::Bit(e.bitmap, 22), 16, e.distance);
     d = put::number(draft, BITS, d, When::Bit(e.bitmap, 23), 16, e.price);
     d = put::number(draft, BITS, d, When::Bit(e.bitmap, 24), 16, e.price_unit);
-    d = put::at_most(draft, BITS, d, When::Bit(e.bitmap, 25), 5, 19, e.pointer);
+    d = put::at_most(
+        draft,
+        BITS,
+        d,
+        When::Bit(e.bitmap, 25),
+        5,
+        Event::LAST_POINTER,
+        e.pointer,
+    );
     d = put::number(draft, BITS, d, When::Bit(e.bitmap, 26), 16, e.authenticator);
     d = put::number(draft, BITS, d, When::Bit(e.bitmap, 27), 5, e.data_bitmap);
     let inner = e.data_bitmap;
@@ -351,7 +377,7 @@ fn put_account(draft: &mut [u64], c: Cursor, e: Event) -> Cursor
         d,
         When::Bit(inner, 1),
         11,
-        1439,
+        LAST_MINUTE,
         e.first_minute,
     );
     d = put::number(draft, BITS, d, When::Bit(inner, 2), 1, e.simulation);

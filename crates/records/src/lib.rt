@@ -44,6 +44,14 @@ pub const BYTES: usize = 29;
 
 pub const BITS: u32 = 232;
 
+// The most records of a journal, and of gate writes in one call.
+pub const MOST_RECORDS: usize = 15;
+
+// The last day that a date can name, and the last minute of a day.
+pub const LAST_DAY: u32 = 16383;
+
+pub const LAST_MINUTE: u32 = 1439;
+
 // The record at a pointer, from 1, as a part of a lent file; an empty part where the file has none.
 pub fn part(file: &[u8], pointer: u32) -> &[u8]
     ensures { λ r. ⌜ now r ≡ recordAt (now (file .entry)) pointer ⌝ }

@@ -112,72 +112,61 @@ lays xs room c h v wide n d ready narrow exceeding is ok =
     (omega (arith, ready .within, ready .longer), (narrow, fits-cons h v [] [] (sym exceeding ∙ clear .narrow) .0))
 
 -- A tariff's numbers that fit their boxes, in the h bits that it has on the card, and the one number that they make.
-pub record Packs (h key kind priority : ℕ) : Type 0 where
+pub record Packs (here : Bool) (h key kind priority : ℕ) : Type 0 where
   pub small : (key < 16) × ((kind < 256) × (priority < 16))
   pub whole : key * 4096 + kind * 16 + priority < 2 ^ h
-  pub spelt : bitsOf h (key * 4096 + kind * 16 + priority) ≡ bitsOf (h / 4) key ++ (bitsOf (h / 2) kind ++ bitsOf (h / 4) priority)
+  pub spelt : (out : List Bool)
+      → laidOn out (pick here (4 ∷ 8 ∷ 4 ∷ []) (0 ∷ 0 ∷ 0 ∷ [])) (key ∷ kind ∷ priority ∷ []) ≡ out ++ bitsOf h (key * 4096 + kind * 16 + priority)
 
-packs : (t : When) (h key kind priority : ℕ)
-    → h ≡ pick (holds t) 16 0
-    → exceeds (h / 4 ∷ h / 2 ∷ h / 4 ∷ []) (key ∷ kind ∷ priority ∷ []) ≡ false
-    → Packs h key kind priority
-packs t h key kind priority here fits =
-    let one = fits-cons (h / 4) key (h / 2 ∷ h / 4 ∷ []) (kind ∷ priority ∷ []) fits in
-    let two = fits-cons (h / 2) kind (h / 4 ∷ []) (priority ∷ []) (one .1) in
-    let three = fits-cons (h / 4) priority [] [] (two .1) in
-    go (holds t) h here (one .0) (two .0) (three .0)
+packs : (here : Bool) (h key kind priority : ℕ)
+    → h ≡ pick here 16 0
+    → exceeds (pick here (4 ∷ 8 ∷ 4 ∷ []) (0 ∷ 0 ∷ 0 ∷ [])) (key ∷ kind ∷ priority ∷ []) ≡ false
+    → Packs here h key kind priority
+packs true h key kind priority e fits =
+    let (a, rest) = fits-cons 4 key (8 ∷ 4 ∷ []) (kind ∷ priority ∷ []) fits in
+    let (b, last) = fits-cons 8 kind (4 ∷ []) (priority ∷ []) rest in
+    let (d, none) = fits-cons 4 priority [] [] last in
+    let makes : number bits ≡ key * 4096 + kind * 16 + priority =
+    number-append (bitsOf 4 key) (bitsOf 8 kind ++ bitsOf 4 priority)
+    ∙ rw (number-append (bitsOf 8 kind) (bitsOf 4 priority), number-bits-of 4 key a, number-bits-of 8 kind b, number-bits-of 4 priority d) (omega arith) in
+    let spelt : bitsOf 16 (key * 4096 + kind * 16 + priority) ≡ bits = ap (bitsOf 16) (sym makes) ∙ bits-of-number bits in
+    rw e (record { small = (a, (b, d)); whole = omega arith; spelt = λ out. rw spelt (simp append-assoc) })
   where
     bits : List Bool
     bits = bitsOf 4 key ++ (bitsOf 8 kind ++ bitsOf 4 priority)
-
-    go : (b : Bool) (h : ℕ) → h ≡ pick b 16 0 → key < 2 ^ (h / 4) → kind < 2 ^ (h / 2) → priority < 2 ^ (h / 4) → Packs h key kind priority
-    go true h e one two three =
-        let a : key < 16 = rw e at one in
-        let b : kind < 256 = rw e at two in
-        let d : priority < 16 = rw e at three in
-        let makes : number bits ≡ key * 4096 + kind * 16 + priority =
-        number-append (bitsOf 4 key) (bitsOf 8 kind ++ bitsOf 4 priority)
-        ∙ rw (number-append (bitsOf 8 kind) (bitsOf 4 priority), number-bits-of 4 key a, number-bits-of 8 kind b, number-bits-of 4 priority d) (omega arith) in
-        rw e (record { small = (a, (b, d)); whole = omega arith; spelt = ap (bitsOf 16) (sym makes) ∙ bits-of-number bits })
-    go false h e one two three =
-        let a : key < 1 = rw e at one in
-        let b : kind < 1 = rw e at two in
-        let d : priority < 1 = rw e at three in
-        rw e (record { small = (omega arith, (omega arith, omega arith)); whole = omega arith; spelt = refl })
+packs false h key kind priority e fits =
+    let (a, rest) = fits-cons 0 key (0 ∷ 0 ∷ []) (kind ∷ priority ∷ []) fits in
+    let (b, last) = fits-cons 0 kind (0 ∷ []) (priority ∷ []) rest in
+    let (d, none) = fits-cons 0 priority [] [] last in
+    rw e (record { small = (omega arith, (omega arith, omega arith)); whole = omega arith; spelt = λ out. simp append-assoc })
 
 -- Where there is no fault, a tariff can be packed and laid.
 pub packs-clear : (room : ℕ) (c : Cursor) (t : When) (key kind priority h : ℕ) (wide : Bool) (n : ℕ) (d : Cursor)
     → h ≡ pick (holds t) 16 0
-    → wide ≡ exceeds (h / 4 ∷ h / 2 ∷ h / 4 ∷ []) (key ∷ kind ∷ priority ∷ [])
+    → wide ≡ exceeds (there t (4 ∷ 8 ∷ 4 ∷ [])) (key ∷ kind ∷ priority ∷ [])
     → d ≡ admitted c room h wide n 0
     → d .why ≡ 0
-    → Packs h key kind priority
+    → Packs (holds t) h key kind priority
 packs-clear room c t key kind priority h wide n d here exceeding is ok =
-    packs t h key kind priority here (sym exceeding ∙ admitted-clear c room h wide n 0 (rw is at ok) .narrow)
+    packs (holds t) h key kind priority here (sym exceeding ∙ admitted-clear c room h wide n 0 (rw is at ok) .narrow)
 
 pub gave-tariff : (xs ys : List ℕ) (room : ℕ) (c : Cursor) (t : When) (key kind priority h : ℕ) (wide : Bool) (n : ℕ) (d : Cursor)
     → Drafted xs room c
     → length ys ≡ length xs
     → h ≡ pick (holds t) 16 0
-    → wide ≡ exceeds (h / 4 ∷ h / 2 ∷ h / 4 ∷ []) (key ∷ kind ∷ priority ∷ [])
+    → wide ≡ exceeds (there t (4 ∷ 8 ∷ 4 ∷ [])) (key ∷ kind ∷ priority ∷ [])
     → n ≡ pick (eqb priority 13) 4 0
     → d ≡ admitted c room h wide n 0
     → (d .why ≡ 0 → (out : List Bool) → length out ≡ c .at → xs ≡ cut 32 32 (length xs) out → ys ≡ cut 32 32 (length xs) (out ++ bitsOf h (key * 4096 + kind * 16 + priority)))
     → Gave xs ys room c t (4 ∷ 8 ∷ 4 ∷ []) Tariff (key ∷ kind ∷ priority ∷ []) d
 gave-tariff xs ys room c t key kind priority h wide n d within long here exceeding ruled is laid =
-    let boxes : there t (4 ∷ 8 ∷ 4 ∷ []) ≡ h / 4 ∷ h / 2 ∷ h / 4 ∷ [] = rw here (parts (holds t)) in
     gave xs ys room c t (4 ∷ 8 ∷ 4 ∷ []) Tariff (key ∷ kind ∷ priority ∷ []) h wide n d within long refl
-    (rw boxes (sums (holds t) h here)) (rw boxes exceeding) ruled is
-    (λ ok out at drafted.
-    rw boxes (simp (append-assoc, sym (packs-clear room c t key kind priority h wide n d here exceeding is ok .spelt)) (laid ok out at drafted)))
+    (here ∙ sums (holds t)) exceeding ruled is
+    (λ ok out at drafted. rw (packs-clear room c t key kind priority h wide n d here exceeding is ok .spelt out) (laid ok out at drafted))
   where
-    parts : (b : Bool) → pick b (4 ∷ 8 ∷ 4 ∷ []) (0 ∷ 0 ∷ 0 ∷ []) ≡ pick b 16 0 / 4 ∷ pick b 16 0 / 2 ∷ pick b 16 0 / 4 ∷ []
-    parts true = refl
-    parts false = refl
-
-    sums : (b : Bool) (h : ℕ) → h ≡ pick b 16 0 → h ≡ h / 4 + (h / 2 + (h / 4 + 0))
-    sums true h e = rw e
-    sums false h e = rw e
+    sums : (b : Bool) → pick b 16 0 ≡ total (pick b (4 ∷ 8 ∷ 4 ∷ []) (0 ∷ 0 ∷ 0 ∷ []))
+    sums true = refl
+    sums false = refl
 
 -- Letters from i on: the first is too wide, or one behind it.
 pub any-more : (w : ℕ) (letters : List ℕ) (i : ℕ) (wide : Bool)

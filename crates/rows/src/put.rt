@@ -3,12 +3,13 @@ ghost use mathlib.Core.Path.{_≡_};
 ghost use mathlib.Core.List.{List, [], _∷_};
 ghost use Prim.Native.Nat.{ℕ, _+_, _*_, _/_, _≤_, _<_};
 ghost use lib.ListN.{length, replicate};
-ghost use Rattle.rows.specs.Walk.{exceeds};
+ghost use Rattle.rows.specs.Walk.{there, exceeds};
 ghost use Rattle.rows.specs.inner.Step.{Drafted, Gave, Lays, LaidAll, Packed};
 use crate::Cursor;
 use crate::Rule;
 use crate::When;
 use crate::step;
+use crate::take::LETTER_BITS;
 use crate::take::ListTariff;
 
 // Whether v is too wide for a box of w bits.
@@ -79,8 +80,8 @@ pub fn tariff(
     requires { ⌜ Drafted (now draft) room c ⌝ }
     ensures { λ d. ⌜ Gave (now (draft .entry)) (now (draft .exit)) room c when (4 ∷ 8 ∷ 4 ∷ []) Rule.Tariff (key ∷ kind ∷ priority ∷ []) d ⌝ }
 {
-    let here = step::width(when, 16);
-    let wide = tariff_wide(here, key, kind, priority);
+    let here = step::width(when, ListTariff::BITS);
+    let wide = tariff_wide(when, key, kind, priority);
     let broken = if priority == ListTariff::UNDEFINED {
         4
     } else {
@@ -93,12 +94,13 @@ pub fn tariff(
     d
 }
 
-// Whether one of a tariff's numbers is too wide for its box, of the w bits that the tariff has on the card.
-fn tariff_wide(w: u32, key: u32, kind: u32, priority: u32) -> bool
-    requires { ⌜ w ≤ 16 ⌝ }
-    ensures { λ r. ⌜ r ≡ exceeds (w / 4 ∷ w / 2 ∷ w / 4 ∷ []) (key ∷ kind ∷ priority ∷ []) ⌝ }
+// Whether one of a tariff's numbers is too wide for its box as it stands on the card.
+fn tariff_wide(when: When, key: u32, kind: u32, priority: u32) -> bool
+    ensures { λ r. ⌜ r ≡ exceeds (there when (4 ∷ 8 ∷ 4 ∷ [])) (key ∷ kind ∷ priority ∷ []) ⌝ }
 {
-    wide(key, w / 4) | wide(kind, w / 2) | wide(priority, w / 4)
+    wide(key, step::width(when, ListTariff::KEY_BITS))
+        | wide(kind, step::width(when, ListTariff::KIND_BITS))
+        | wide(priority, step::width(when, ListTariff::PRIORITY_BITS))
 }
 
 // A tariff's numbers as one of 16 bits.
@@ -106,7 +108,7 @@ fn packed(key: u32, kind: u32, priority: u32) -> u32
     requires { ⌜ (key < 16) × ((kind < 256) × (priority < 16)) ⌝ }
     ensures { λ r. ⌜ r ≡ key * 4096 + kind * 16 + priority ⌝ }
 {
-    key * 4096 + kind * 16 + priority
+    key * ListTariff::KEY_UNIT + kind * ListTariff::PRIORITIES + priority
 }
 
 // A text: letters of 5 bits, one field.
@@ -114,7 +116,7 @@ pub fn text(draft: &mut [u64], room: u32, c: Cursor, when: When, letters: &[u32]
     requires { ⌜ Drafted (now draft) room c × (length (now letters) ≤ 32) ⌝ }
     ensures { λ d. ⌜ Gave (now (draft .entry)) (now (draft .exit)) room c when (replicate (length (now (letters .entry))) 5) Rule.Any (now (letters .entry)) d ⌝ }
 {
-    let here = step::width(when, 5);
+    let here = step::width(when, LETTER_BITS);
     let wide = any_wide(letters, here);
     let n = letters.len() as u32;
     let d = step::admit(c, room, n * here, wide, 0, 0);

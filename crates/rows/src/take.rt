@@ -21,6 +21,25 @@ pub struct ListTariff {
 impl ListTariff {
     // The priority code that no entry may have.
     pub const UNDEFINED: u32 = 13;
+
+    // Widths.
+    pub const KEY_BITS: u32 = 4;
+
+    pub const KIND_BITS: u32 = 8;
+
+    pub const PRIORITY_BITS: u32 = 4;
+
+    pub const BITS: u32 = ListTariff::KEY_BITS + ListTariff::KIND_BITS + ListTariff::PRIORITY_BITS;
+
+    // How many keys, contract types and priorities there are in their widths.
+    pub const KEYS: u32 = 1 << ListTariff::KEY_BITS;
+
+    pub const KINDS: u32 = 1 << ListTariff::KIND_BITS;
+
+    pub const PRIORITIES: u32 = 1 << ListTariff::PRIORITY_BITS;
+
+    // What one of the key is worth in a tariff's number.
+    pub const KEY_UNIT: u32 = ListTariff::KINDS * ListTariff::PRIORITIES;
 }
 
 // A field of one box of w bits, under a rule.
@@ -63,9 +82,9 @@ pub fn tariff(words: &[u64], end: u32, c: Cursor, when: When) -> ListTariff
     requires { ⌜ Ready (now words) end c ⌝ }
     ensures { λ r. ⌜ Took (now (words .entry)) end c when (4 ∷ 8 ∷ 4 ∷ []) Rule.Tariff (r .key ∷ r .kind ∷ r .priority ∷ []) (r .cursor) ⌝ }
 {
-    let here = step::width(when, 16);
+    let here = step::width(when, ListTariff::BITS);
     let v = bits::number(words, c.at, here);
-    let priority = v % 16;
+    let priority = v % ListTariff::PRIORITIES;
     let broken = if priority == ListTariff::UNDEFINED {
         4
     } else {
@@ -74,18 +93,21 @@ pub fn tariff(words: &[u64], end: u32, c: Cursor, when: When) -> ListTariff
     let cursor = step::admit(c, end, here, false, broken, v);
     ListTariff {
         cursor,
-        key: v / 4096,
-        kind: v / 16 % 256,
+        key: v / ListTariff::KEY_UNIT,
+        kind: v / ListTariff::PRIORITIES % ListTariff::KINDS,
         priority,
     }
 }
+
+// The width of a letter.
+pub const LETTER_BITS: u32 = 5;
 
 // A text: letters of 5 bits, one field. Its letters count only where there is no refusal.
 pub fn text(words: &[u64], end: u32, c: Cursor, when: When, letters: &mut [u32]) -> Cursor
     requires { ⌜ Ready (now words) end c × (length (now letters) ≤ 32) ⌝ }
     ensures { λ d. ⌜ Took (now (words .entry)) end c when (replicate (length (now (letters .entry))) 5) Rule.Any (now (letters .exit)) d ⌝ }
 {
-    let here = step::width(when, 5);
+    let here = step::width(when, LETTER_BITS);
     let n = letters.len() as u32;
     let d = step::admit(c, end, n * here, false, 0, 0);
     if d.why == 0 {

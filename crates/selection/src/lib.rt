@@ -10,11 +10,10 @@ use lists::list;
 use lists::list::ContractList;
 use lists::list::Entry;
 use records::BYTES;
+use records::LAST_DAY;
 use records::Refusal;
 
-// The last day that a date can name, and the highest operator.
-const LAST_DAY: u32 = 16383;
-
+// The highest operator.
 const LAST_OPERATOR: u32 = 255;
 
 // The chosen entry's position in the list, from 1, its pointer and its priority; all zero where refused.
@@ -132,13 +131,16 @@ fn eligible(entry: Entry, file: &[u8], day: u32, operator: u32) -> bool
 fn opens(operator: u32, key: u32, contract: Contract) -> bool
     ensures { λ r. ⌜ r ≡ opens operator key contract ⌝ }
 {
-    if key == 0 {
+    if key == Entry::OPEN_KEY {
         return true;
     }
-    if key <= 14 {
+    if key <= Entry::LAST_OWN_KEY {
         return key == operator;
     }
-    (key == 15) & (15 <= operator) & (contract.bitmap % 2 == 1) & (contract.provider == operator)
+    (key == Entry::PROVIDER_KEY)
+        & (Entry::PROVIDER_KEY <= operator)
+        & (contract.bitmap % 2 == 1)
+        & (contract.provider == operator)
 }
 
 fn not_before(day: u32, start: u32) -> bool
@@ -179,7 +181,7 @@ pub fn change_priority(list: &mut [u8], n: u32, position: u32, code: u32) -> Ref
     if list.len() != BYTES {
         return Refusal::WRONG_LENGTH;
     }
-    if (position == 0) | (code == Entry::UNDEFINED) | (15 < code) {
+    if (position == 0) | (code == Entry::UNDEFINED) | (Entry::LAST_PRIORITY < code) {
         return Refusal::OUTSIDE_LIMITS;
     }
     let read = list::read(list, n);

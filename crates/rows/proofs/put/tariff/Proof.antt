@@ -3,7 +3,7 @@ use mathlib.Core.Path.{_≡_, refl}
 use mathlib.Core.Logic.{⊎-elim}
 use lib.Dec.{eqb}
 use borrow.Author.Tests.{eq-eqb, ne-eqb}
-use Rattle.rows.specs.Row.{pick}
+use Rattle.rows.specs.Row.{pick, holds}
 use Rattle.rows.proofs.Stepping.{box-width}
 use Rattle.rows.proofs.Giving.{Packs, gave-tariff, packs-clear}
 use borrow.Author.Needs.{needs}
@@ -14,7 +14,7 @@ use Rattle.rows.proofs.put.tariff.Tie as tie
 ruled : (c : tie.Joined1) → c .if1 .broken ≡ pick (eqb (c .before .before .before .before .args .priority) 13) 4 0
 ruled c = ⊎-elim (λ w. rw (w .1, eq-eqb _ _ (w .0 .taken))) (λ w. rw (w .1, ne-eqb _ _ (w .0 .left))) (c .if1 .came)
 
-packs : (c : tie.After-lay-arg) → Packs (c .before .before .before .before .before .before .width .result) (c .before .before .before .before .before .before .before .before .args .key) (c .before .before .before .before .before .before .before .before .args .kind) (c .before .before .before .before .before .before .before .before .args .priority)
+packs : (c : tie.After-lay-arg) → Packs (holds (c .before .before .before .before .before .before .before .before .args .when)) (c .before .before .before .before .before .before .width .result) (c .before .before .before .before .before .before .before .before .args .key) (c .before .before .before .before .before .before .before .before .args .kind) (c .before .before .before .before .before .before .before .before .args .priority)
 packs c = let a = c .before .before .before .before .before .before .before .before .args in
     packs-clear (a .room) (a .c) (a .when) (a .key) (a .kind) (a .priority) _ _ _ _ (c .before .before .before .before .before .before .width .ensures) (c .before .before .before .before .before .tariff-wide .ensures) (c .before .before .before .admit .ensures) (c .before .if2 .taken)
 
@@ -22,7 +22,7 @@ width-requires : tie.Need-width-requires
 width-requires c κs = search needs
 
 tariff-wide-requires : tie.Need-tariff-wide-requires
-tariff-wide-requires c κs = box-width (c .before .before .args .when) 16 _ 16 (c .width .ensures) (omega arith)
+tariff-wide-requires c κs = search needs
 
 admit-requires : tie.Need-admit-requires
 admit-requires c κs = search needs

@@ -1,7 +1,7 @@
 use Prim.Native.Nat.{_≤_, _-_}
 use borrow.Author.Needs.{needs}
-use Rattle.dump.proofs.say_entries.Statement.{statement}
-use Rattle.dump.proofs.say_entries.Tie as tie
+use Rattle.decode.proofs.say_entries.Statement.{statement}
+use Rattle.decode.proofs.say_entries.Tie as tie
 
 abbrev Inv-loop : tie.InvT-loop
 Inv-loop list i₀ i = i ≤ 8

@@ -1,8 +1,8 @@
 use Prim.Native.Nat.{_≤_, _-_, _+_}
 use lib.ListN.{length}
 use borrow.Author.Needs.{needs}
-use Rattle.dump.proofs.dump.Statement.{statement}
-use Rattle.dump.proofs.dump.Tie as tie
+use Rattle.decode.proofs.dump_lines.Statement.{statement}
+use Rattle.decode.proofs.dump_lines.Tie as tie
 
 abbrev Inv-loop : tie.InvT-loop
 Inv-loop input from₀ number₀ from number = (number ≤ from) × (from ≤ length input + 1)
@@ -43,8 +43,8 @@ loop-again c = search needs
 returns : tie.Need-returns Inv-loop μ-loop
 returns c = search needs
 
-pub dump-spec : {M : Type 1} → statement M
-dump-spec =
+pub dump-lines-spec : {M : Type 1} → statement M
+dump-lines-spec =
     tie.close
     (tie.spec
     Inv-loop
