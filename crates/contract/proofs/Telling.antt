@@ -2,13 +2,11 @@
 use Prim.Native.Nat.{ℕ}
 use mathlib.Core.List.{List, _++_}
 use mathlib.Core.Path.{_≡_, refl}
-use lib.Dec.{eqb}
 use lib.ListN.{getD, take, drop}
 use Rattle.rows.specs.Row.{pick}
 use Rattle.records.specs.Answer.{Told, refusal}
 use Rattle.records.proofs.Telling.{told-one}
 use Rattle.contract.specs.Contract.{headOf, withData, data42Of, data50Of, isCarnet, isUrban, contractTold}
-use Rattle.contract.specs.declared.Contract.{Contract}
 use Rattle.contract.specs.declared.Data.{Data}
 use Rattle.contract.specs.declared.Data.the-variants.{Nothing, Carnet, Urban}
 use Rattle.contract.specs.declared.ContractRead.{ContractRead}

@@ -11,8 +11,7 @@ use lib.Dec.{eqb}
 use lib.ListN.{length, set, take, drop, length-set}
 use lib.Seq.{getD-set-same, getD-set-other}
 use borrow.Author.Tests.{eqb-true, eqb-false, eq-eqb, ne-eqb}
-use Rattle.rows.specs.Walk.{refused, read}
-use Rattle.rows.specs.table.Event.{event}
+use Rattle.rows.specs.Walk.{read}
 use Rattle.records.specs.Answer.{refusal}
 use Rattle.records.specs.Event.{eventTold, eventRead}
 use Rattle.records.proofs.Telling.{event-one}

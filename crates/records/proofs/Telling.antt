@@ -1,6 +1,5 @@
 -- What an answer tells is the whole of it: answers that tell the same are equal.
 use mathlib.Core.Path.{_≡_, refl, sym, ap, _∙_}
-use mathlib.Core.List.{List}
 use Rattle.rows.specs.Row.{pick}
 use Rattle.records.specs.Answer.{Told, refusal}
 use Rattle.records.specs.Environment.{environmentOf, environmentTold}

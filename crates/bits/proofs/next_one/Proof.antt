@@ -34,27 +34,12 @@ skip c bs e =
     let found = c .number .ensures ∙ part-at (length words) bs words e (s .loop .i) 32 h (omega arith) in
     rw found (leading-front 32 (drop (s .loop .i) bs))
 
-loop-holds : tie.Need-loop-holds Inv-loop μ-loop
-loop-holds c = (search needs, λ bs l e. omega arith)
-
-number-requires : tie.Need-number-requires Inv-loop μ-loop
-number-requires c κs = search needs
-
-add-result : tie.Need-add-result Inv-loop μ-loop
-add-result c = search needs
-
 returns : tie.Need-returns Inv-loop μ-loop
 returns c bs l e =
     let s = c .before .before .before .loop in
     let z = skip (c .before) bs e in
     let here = leading-here 32 (drop (s .i) bs) (omega arith) in
     omega (arith, s .inv .1 bs l e)
-
-add-i : tie.Need-add-i Inv-loop μ-loop
-add-i c = search needs
-
-loop-less : tie.Need-loop-less Inv-loop μ-loop
-loop-less c = search needs
 
 loop-again : tie.Need-loop-again Inv-loop μ-loop
 loop-again c = (
@@ -78,11 +63,11 @@ next-one-spec =
     (tie.spec
     Inv-loop
     μ-loop
-    loop-holds
-    number-requires
-    add-result
+    (λ c. search needs)
+    (λ c κs. search needs)
+    (λ c. search needs)
     returns
-    add-i
-    loop-less
+    (λ c. search needs)
+    (λ c. search needs)
     loop-again
     returns-2)

@@ -19,36 +19,6 @@ Inv-loop draft bytes₀ i₀ bytes i =
 abbrev μ-loop : tie.MeasureT-loop
 μ-loop draft bytes₀ i₀ bytes i = length bytes₀ - i
 
-loop-holds : tie.Need-loop-holds Inv-loop μ-loop
-loop-holds c = search needs
-
-mul-bytes : tie.Need-mul-bytes Inv-loop μ-loop
-mul-bytes c = search needs
-
-shared-slice-read-bytes : tie.Need-shared-slice-read-bytes Inv-loop μ-loop
-shared-slice-read-bytes c = search needs
-
-mul-bytes-2 : tie.Need-mul-bytes-2 Inv-loop μ-loop
-mul-bytes-2 c = search needs
-
-sub-bytes : tie.Need-sub-bytes Inv-loop μ-loop
-sub-bytes c = search needs
-
-shr-bytes : tie.Need-shr-bytes Inv-loop μ-loop
-shr-bytes c = search needs
-
-cast-bytes : tie.Need-cast-bytes Inv-loop μ-loop
-cast-bytes c = search needs
-
-slice-write-bytes : tie.Need-slice-write-bytes Inv-loop μ-loop
-slice-write-bytes c = search needs
-
-add-i : tie.Need-add-i Inv-loop μ-loop
-add-i c = search needs
-
-loop-less : tie.Need-loop-less Inv-loop μ-loop
-loop-less c = search needs
-
 loop-again : tie.Need-loop-again Inv-loop μ-loop
 loop-again c =
     let s = c .before .before in
@@ -62,9 +32,6 @@ loop-again c =
       ),
     )
 
-same-length : tie.Need-same-length Inv-loop μ-loop
-same-length c = search needs
-
 returns : tie.Need-returns Inv-loop μ-loop
 returns c out e = let s = c .before .loop in fill-all 8 8 _ out (s .bytes) (s .i) (s .inv .0) (search needs) (s .inv .1 .1 out e)
 
@@ -74,16 +41,16 @@ pack-spec =
     (tie.spec
     Inv-loop
     μ-loop
-    loop-holds
-    mul-bytes
-    shared-slice-read-bytes
-    mul-bytes-2
-    sub-bytes
-    shr-bytes
-    cast-bytes
-    slice-write-bytes
-    add-i
-    loop-less
+    (λ c. search needs)
+    (λ c. search needs)
+    (λ c. search needs)
+    (λ c. search needs)
+    (λ c. search needs)
+    (λ c. search needs)
+    (λ c. search needs)
+    (λ c. search needs)
+    (λ c. search needs)
+    (λ c. search needs)
     loop-again
-    same-length
+    (λ c. search needs)
     returns)

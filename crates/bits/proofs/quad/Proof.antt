@@ -30,61 +30,10 @@ four-bytes xs j fits =
     byte : (i at : ℕ) → 8 * i ≡ at → part 8 at (spread 8 xs) ≡ getD xs i 0
     byte i at e = rw e at (part-spread 8 xs i fits)
 
-mul-i : tie.Need-mul-i
-mul-i c = search needs
-
-shared-slice-read-four : tie.Need-shared-slice-read-four
-shared-slice-read-four c = search needs
-
-add-four : tie.Need-add-four
-add-four c = search needs
-
-shared-slice-read-four-2 : tie.Need-shared-slice-read-four-2
-shared-slice-read-four-2 c = search needs
-
-add-four-2 : tie.Need-add-four-2
-add-four-2 c = search needs
-
-shared-slice-read-four-3 : tie.Need-shared-slice-read-four-3
-shared-slice-read-four-3 c = search needs
-
-add-four-3 : tie.Need-add-four-3
-add-four-3 c = search needs
-
-shared-slice-read-four-4 : tie.Need-shared-slice-read-four-4
-shared-slice-read-four-4 c = search needs
-
-four-requires : tie.Need-four-requires
-four-requires c κs = search needs
-
 returns : tie.Need-returns
 returns c =
     let s = c .before .before .before .before .before .before in
     c .four .ensures ∙ four-bytes (s .before .args .bytes .now) (s .before .args .j) (λ i. s .shared-slice-known .given i .fits)
-
-byte-requires : tie.Need-byte-requires
-byte-requires c κs = search needs
-
-add-byte : tie.Need-add-byte
-add-byte c = search needs
-
-byte-requires-2 : tie.Need-byte-requires-2
-byte-requires-2 c κs = search needs
-
-add-byte-2 : tie.Need-add-byte-2
-add-byte-2 c = search needs
-
-byte-requires-3 : tie.Need-byte-requires-3
-byte-requires-3 c κs = search needs
-
-add-byte-3 : tie.Need-add-byte-3
-add-byte-3 c = search needs
-
-byte-requires-4 : tie.Need-byte-requires-4
-byte-requires-4 c κs = search needs
-
-four-requires-2 : tie.Need-four-requires-2
-four-requires-2 c κs = search needs
 
 returns-2 : tie.Need-returns-2
 returns-2 c =
@@ -98,22 +47,22 @@ pub quad-spec : {M : Type 1} → statement M
 quad-spec =
     tie.close
     (tie.spec
-    mul-i
-    shared-slice-read-four
-    add-four
-    shared-slice-read-four-2
-    add-four-2
-    shared-slice-read-four-3
-    add-four-3
-    shared-slice-read-four-4
-    four-requires
+    (λ c. search needs)
+    (λ c. search needs)
+    (λ c. search needs)
+    (λ c. search needs)
+    (λ c. search needs)
+    (λ c. search needs)
+    (λ c. search needs)
+    (λ c. search needs)
+    (λ c κs. search needs)
     returns
-    byte-requires
-    add-byte
-    byte-requires-2
-    add-byte-2
-    byte-requires-3
-    add-byte-3
-    byte-requires-4
-    four-requires-2
+    (λ c κs. search needs)
+    (λ c. search needs)
+    (λ c κs. search needs)
+    (λ c. search needs)
+    (λ c κs. search needs)
+    (λ c. search needs)
+    (λ c κs. search needs)
+    (λ c κs. search needs)
     returns-2)

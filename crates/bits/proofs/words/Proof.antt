@@ -35,32 +35,11 @@ made : (c : tie.After-quad2 Inv-loop μ-loop)
     → c .before .before .loop .high * 2 ^ 31 % 2 ^ 64 + c .quad2 .result / 2 ≡ part 63 (32 * c .before .before .loop .j) (bits c)
 made c = rw (c .before .before .loop .inv .1 .1 .0, low c) (word (c .before .before .loop .j) (bits c))
 
-quad-requires : tie.Need-quad-requires Inv-loop μ-loop
-quad-requires c κs = search needs
-
 loop-holds : tie.Need-loop-holds Inv-loop μ-loop
 loop-holds c = (refl, (search needs, (c .quad .ensures ∙ sym (part-padded 32 0 (spread 8 (c .before .before .before .args .bytes .now))), refl)))
 
-add-quad : tie.Need-add-quad Inv-loop μ-loop
-add-quad c = search needs
-
-quad-requires-2 : tie.Need-quad-requires-2 Inv-loop μ-loop
-quad-requires-2 c κs = search needs
-
 add-words : tie.Need-add-words Inv-loop μ-loop
 add-words c = omega (arith, made c, part-lt 63 (32 * c .before .before .loop .j) (bits c))
-
-mul-words : tie.Need-mul-words Inv-loop μ-loop
-mul-words c = search needs
-
-slice-write-words : tie.Need-slice-write-words Inv-loop μ-loop
-slice-write-words c = search needs
-
-add-j : tie.Need-add-j Inv-loop μ-loop
-add-j c = search needs
-
-loop-less : tie.Need-loop-less Inv-loop μ-loop
-loop-less c = search needs
 
 loop-again : tie.Need-loop-again Inv-loop μ-loop
 loop-again c =
@@ -75,9 +54,6 @@ loop-again c =
       ),
     )
 
-same-length : tie.Need-same-length Inv-loop μ-loop
-same-length c = search needs
-
 returns : tie.Need-returns Inv-loop μ-loop
 returns c = let s = c .before .loop in fill-all 32 63 _ _ (s .words) (s .j) (s .inv .0) (search needs) (s .inv .1 .1 .1)
 
@@ -87,15 +63,15 @@ words-spec =
     (tie.spec
     Inv-loop
     μ-loop
-    quad-requires
+    (λ c κs. search needs)
     loop-holds
-    add-quad
-    quad-requires-2
+    (λ c. search needs)
+    (λ c κs. search needs)
     add-words
-    mul-words
-    slice-write-words
-    add-j
-    loop-less
+    (λ c. search needs)
+    (λ c. search needs)
+    (λ c. search needs)
+    (λ c. search needs)
     loop-again
-    same-length
+    (λ c. search needs)
     returns)

@@ -11,18 +11,6 @@ use borrow.Author.Needs.{needs}
 use Rattle.contract.proofs.put_fields.Statement.{statement}
 use Rattle.contract.proofs.put_fields.Tie as tie
 
-put-head-requires : tie.Need-put-head-requires
-put-head-requires c κs = search needs
-
-agrees-requires : tie.Need-agrees-requires
-agrees-requires c κs = search needs
-
-disagreed-requires : tie.Need-disagreed-requires
-disagreed-requires c κs = search needs
-
-same-length : tie.Need-same-length
-same-length c = search needs
-
 returns : tie.Need-returns
 returns c =
     let no : agrees (c .before .before .before .before .before .before .before .before .args .kind) (c .before .before .before .before .before .before .before .before .args .c) ≡ false = sym (c .before .before .agrees .ensures) ∙ not-true _ (c .before .if1 .taken) in
@@ -31,14 +19,8 @@ returns c =
       opposed = λ same. record { draft = _; last = _; puts = c .before .before .before .before .before .put-head .ensures [] .puts; stops = c .disagreed .ensures };
     }
 
-carnet-requires : tie.Need-carnet-requires
-carnet-requires c κs = search needs
-
 put-carnet-requires : tie.Need-put-carnet-requires
 put-carnet-requires c κs = c .before .before .before .before .before .before .before .put-head .ensures [] .ready
-
-same-length-2 : tie.Need-same-length-2
-same-length-2 c = search needs
 
 returns-2 : tie.Need-returns-2
 unfolding contract42
@@ -50,14 +32,8 @@ returns-2 c =
       opposed = λ no. let z : _≡_ {A = ℕ} 0 1 = cc in absurd (omega arith);
     }
 
-urban-requires : tie.Need-urban-requires
-urban-requires c κs = search needs
-
 put-urban-requires : tie.Need-put-urban-requires
 put-urban-requires c κs = c .before .before .before .before .before .before .before .put-head .ensures [] .ready
-
-same-length-3 : tie.Need-same-length-3
-same-length-3 c = search needs
 
 returns-3 : tie.Need-returns-3
 unfolding contract50
@@ -73,16 +49,16 @@ pub put-fields-spec : {M : Type 1} → statement M
 put-fields-spec =
     tie.close
     (tie.spec
-    put-head-requires
-    agrees-requires
-    disagreed-requires
-    same-length
+    (λ c κs. search needs)
+    (λ c κs. search needs)
+    (λ c κs. search needs)
+    (λ c. search needs)
     returns
-    carnet-requires
+    (λ c κs. search needs)
     put-carnet-requires
-    same-length-2
+    (λ c. search needs)
     returns-2
-    urban-requires
+    (λ c κs. search needs)
     put-urban-requires
-    same-length-3
+    (λ c. search needs)
     returns-3)

@@ -1,27 +1,9 @@
+use borrow.Author.Needs.{needs}
 use mathlib.Core.Path.{_∙_}
-use lib.Dec.{lit≤}
 use Rattle.rows.specs.inner.Line.{given, _◂_}
 use Rattle.rows.specs.table.Contract.{data50}
 use Rattle.contract.proofs.put_stops.Statement.{statement}
 use Rattle.contract.proofs.put_stops.Tie as tie
-
-number-requires : tie.Need-number-requires
-number-requires c κs = (c .before .before .pre, lit≤ tt)
-
-number-requires-2 : tie.Need-number-requires-2
-number-requires-2 c κs = (c .before .before .before .number .ensures .ready, lit≤ tt)
-
-number-requires-3 : tie.Need-number-requires-3
-number-requires-3 c κs = (c .before .before .before .number2 .ensures .ready, lit≤ tt)
-
-number-requires-4 : tie.Need-number-requires-4
-number-requires-4 c κs = (c .before .before .before .number3 .ensures .ready, lit≤ tt)
-
-number-requires-5 : tie.Need-number-requires-5
-number-requires-5 c κs = (c .before .before .before .number4 .ensures .ready, lit≤ tt)
-
-number-requires-6 : tie.Need-number-requires-6
-number-requires-6 c κs = (c .before .before .before .number5 .ensures .ready, lit≤ tt)
 
 same-length : tie.Need-same-length
 same-length c = c .before .before .number6 .kept .0
@@ -49,11 +31,11 @@ pub put-stops-spec : {M : Type 1} → statement M
 put-stops-spec =
     tie.close
     (tie.spec
-    number-requires
-    number-requires-2
-    number-requires-3
-    number-requires-4
-    number-requires-5
-    number-requires-6
+    (λ c κs. search needs)
+    (λ c κs. search needs)
+    (λ c κs. search needs)
+    (λ c κs. search needs)
+    (λ c κs. search needs)
+    (λ c κs. search needs)
     same-length
     returns)

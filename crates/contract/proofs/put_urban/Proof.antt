@@ -6,9 +6,6 @@ use borrow.Author.Needs.{needs}
 use Rattle.contract.proofs.put_urban.Statement.{statement}
 use Rattle.contract.proofs.put_urban.Tie as tie
 
-put-terms-requires : tie.Need-put-terms-requires
-put-terms-requires c κs = search needs
-
 put-purse-requires : tie.Need-put-purse-requires
 put-purse-requires c κs = c .before .before .before .put-terms .ensures (headOf []) .ready
 
@@ -20,9 +17,6 @@ put-stops-requires c κs = c .before .before .before .put-zones .ensures 0 (head
 
 put-limits-requires : tie.Need-put-limits-requires
 put-limits-requires c κs = c .before .before .before .put-stops .ensures 0 (headOf []) .ready
-
-same-length : tie.Need-same-length
-same-length c = search needs
 
 returns : tie.Need-returns
 unfolding data50
@@ -38,10 +32,10 @@ pub put-urban-spec : {M : Type 1} → statement M
 put-urban-spec =
     tie.close
     (tie.spec
-    put-terms-requires
+    (λ c κs. search needs)
     put-purse-requires
     put-zones-requires
     put-stops-requires
     put-limits-requires
-    same-length
+    (λ c. search needs)
     returns)

@@ -12,29 +12,8 @@ use Rattle.contract.proofs.read.Tie as tie
 returns : tie.Need-returns
 returns c = rw (ne-eqb _ _ (c .if1 .taken))
 
-known-requires : tie.Need-known-requires
-known-requires c κs = search needs
-
 returns-2 : tie.Need-returns-2
 returns-2 c = rw (eq-eqb _ _ (c .before .before .if1 .left), sym (c .before .known .ensures) ∙ not-true _ (c .if2 .taken))
-
-slice-aggregate-words : tie.Need-slice-aggregate-words
-slice-aggregate-words c = search needs
-
-words-requires : tie.Need-words-requires
-words-requires c κs = search needs
-
-slice-aggregate-take-fields : tie.Need-slice-aggregate-take-fields
-slice-aggregate-take-fields c = search needs
-
-take-fields-requires : tie.Need-take-fields-requires
-take-fields-requires c κs = search needs
-
-slice-aggregate-end : tie.Need-slice-aggregate-end
-slice-aggregate-end c = search needs
-
-end-requires : tie.Need-end-requires
-end-requires c κs = search needs
 
 returns-3 : tie.Need-returns-3
 returns-3 c =
@@ -63,13 +42,13 @@ read-spec =
     tie.close
     (tie.spec
     returns
-    known-requires
+    (λ c κs. search needs)
     returns-2
-    slice-aggregate-words
-    words-requires
-    slice-aggregate-take-fields
-    take-fields-requires
-    slice-aggregate-end
-    end-requires
+    (λ c. search needs)
+    (λ c κs. search needs)
+    (λ c. search needs)
+    (λ c κs. search needs)
+    (λ c. search needs)
+    (λ c κs. search needs)
     returns-3
     returns-4)

@@ -7,15 +7,6 @@ use Rattle.contract.specs.Contract.{headNumbers, numbers42, numbers50}
 use Rattle.contract.proofs.take_fields.Statement.{statement}
 use Rattle.contract.proofs.take_fields.Tie as tie
 
-take-head-requires : tie.Need-take-head-requires
-take-head-requires c κs = search needs
-
-take-carnet-requires : tie.Need-take-carnet-requires
-take-carnet-requires c κs = search needs
-
-with-data-requires : tie.Need-with-data-requires
-with-data-requires c κs = search needs
-
 returns : tie.Need-returns
 unfolding contract42
 returns c =
@@ -27,12 +18,6 @@ returns c =
       taken = rw kind (record { takes = takes-append (head .ensures .takes) (carnet .takes); ready = carnet .ready });
       made = rw (c .with-data .ensures, kind);
     }
-
-take-urban-requires : tie.Need-take-urban-requires
-take-urban-requires c κs = search needs
-
-with-data-requires-2 : tie.Need-with-data-requires-2
-with-data-requires-2 c κs = search needs
 
 returns-2 : tie.Need-returns-2
 unfolding contract50
@@ -50,10 +35,10 @@ pub take-fields-spec : {M : Type 1} → statement M
 take-fields-spec =
     tie.close
     (tie.spec
-    take-head-requires
-    take-carnet-requires
-    with-data-requires
+    (λ c κs. search needs)
+    (λ c κs. search needs)
+    (λ c κs. search needs)
     returns
-    take-urban-requires
-    with-data-requires-2
+    (λ c κs. search needs)
+    (λ c κs. search needs)
     returns-2)

@@ -1,23 +1,8 @@
-use lib.Dec.{lit≤}
+use borrow.Author.Needs.{needs}
 use Rattle.rows.specs.inner.Line.{taken, _▸_}
 use Rattle.rows.specs.table.Contract.{data50}
 use Rattle.contract.proofs.take_limits.Statement.{statement}
 use Rattle.contract.proofs.take_limits.Tie as tie
-
-number-requires : tie.Need-number-requires
-number-requires c κs = (c .before .before .before .pre, lit≤ tt)
-
-number-requires-2 : tie.Need-number-requires-2
-number-requires-2 c κs = (c .number .ensures .ready, lit≤ tt)
-
-at-most-requires : tie.Need-at-most-requires
-at-most-requires c κs = (c .number2 .ensures .ready, lit≤ tt)
-
-number-requires-3 : tie.Need-number-requires-3
-number-requires-3 c κs = (c .at-most .ensures .ready, lit≤ tt)
-
-number-requires-4 : tie.Need-number-requires-4
-number-requires-4 c κs = (c .number3 .ensures .ready, lit≤ tt)
 
 returns : tie.Need-returns
 unfolding data50
@@ -36,9 +21,9 @@ pub take-limits-spec : {M : Type 1} → statement M
 take-limits-spec =
     tie.close
     (tie.spec
-    number-requires
-    number-requires-2
-    at-most-requires
-    number-requires-3
-    number-requires-4
+    (λ c κs. search needs)
+    (λ c κs. search needs)
+    (λ c κs. search needs)
+    (λ c κs. search needs)
+    (λ c κs. search needs)
     returns)

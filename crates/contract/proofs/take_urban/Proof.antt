@@ -1,12 +1,10 @@
+use borrow.Author.Needs.{needs}
 use mathlib.Core.List.{[]}
 use Rattle.rows.specs.table.Contract.{data50}
 use Rattle.rows.proofs.Running.{takes-append}
 use Rattle.contract.specs.Contract.{headOf}
 use Rattle.contract.proofs.take_urban.Statement.{statement}
 use Rattle.contract.proofs.take_urban.Tie as tie
-
-take-terms-requires : tie.Need-take-terms-requires
-take-terms-requires c κs = c .before .pre
 
 take-purse-requires : tie.Need-take-purse-requires
 take-purse-requires c κs = c .take-terms .ensures (headOf []) .ready
@@ -39,7 +37,7 @@ pub take-urban-spec : {M : Type 1} → statement M
 take-urban-spec =
     tie.close
     (tie.spec
-    take-terms-requires
+    (λ c κs. search needs)
     take-purse-requires
     take-zones-requires
     take-stops-requires

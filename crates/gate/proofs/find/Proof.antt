@@ -19,19 +19,10 @@ returns-3 : tie.Need-returns-3
 unfolding finding
 returns-3 c = rw (eq-eqb _ _ (c .before .before .if1 .left), eq-eqb _ _ (c .before .if2 .left), ne-eqb _ _ (c .if3 .taken))
 
-first-fall-requires : tie.Need-first-fall-requires
-first-fall-requires c κs = search needs
-
 returns-4 : tie.Need-returns-4
 unfolding finding
 returns-4 c = let fall = c .before .first-fall .ensures in
     rw (eq-eqb _ _ (c .before .before .before .before .if1 .left), eq-eqb _ _ (c .before .before .before .if2 .left), eq-eqb _ _ (c .before .before .if3 .left), ← fall, lt-ltb _ _ (c .if4 .taken))
-
-keep-only-requires : tie.Need-keep-only-requires
-keep-only-requires c κs = search needs
-
-same-length : tie.Need-same-length
-same-length c = search needs
 
 returns-5 : tie.Need-returns-5
 unfolding finding
@@ -46,8 +37,8 @@ find-spec =
     returns
     returns-2
     returns-3
-    first-fall-requires
+    (λ c κs. search needs)
     returns-4
-    keep-only-requires
-    same-length
+    (λ c κs. search needs)
+    (λ c. search needs)
     returns-5)

@@ -19,16 +19,10 @@ returns-3 : tie.Need-returns-3
 unfolding joining
 returns-3 c = rw (eq-eqb _ _ (c .before .before .if1 .left), eq-eqb _ _ (c .before .if2 .left), ne-eqb _ _ (c .if3 .taken))
 
-both-requires : tie.Need-both-requires
-both-requires c κs = search needs
-
-same-length : tie.Need-same-length
-same-length c = search needs
-
 returns-4 : tie.Need-returns-4
 unfolding joining
 returns-4 c = rw (eq-eqb _ _ (c .before .before .before .before .before .before .if1 .left), eq-eqb _ _ (c .before .before .before .before .before .if2 .left), eq-eqb _ _ (c .before .before .before .before .if3 .left))
     (ap accepted (back _ _ (c .before .before .both .kept .1 .1 .0 ∙ c .before .before .before .before .if3 .left) (λ i. c .slice-known2 .given i .fits) (c .before .before .both .ensures)))
 
 pub join-spec : {M : Type 1} → statement M
-join-spec = tie.close (tie.spec returns returns-2 returns-3 both-requires same-length returns-4)
+join-spec = tie.close (tie.spec returns returns-2 returns-3 (λ c κs. search needs) (λ c. search needs) returns-4)

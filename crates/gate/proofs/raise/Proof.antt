@@ -19,24 +19,6 @@ Inv-loop record₀ write i₀ «record» i =
 abbrev μ-loop : tie.MeasureT-loop
 μ-loop record₀ write i₀ «record» i = length record₀ - i
 
-loop-holds : tie.Need-loop-holds Inv-loop μ-loop
-loop-holds c = search needs
-
-slice-read-record : tie.Need-slice-read-record Inv-loop μ-loop
-slice-read-record c = search needs
-
-shared-slice-read-record : tie.Need-shared-slice-read-record Inv-loop μ-loop
-shared-slice-read-record c = search needs
-
-slice-write-record : tie.Need-slice-write-record Inv-loop μ-loop
-slice-write-record c = search needs
-
-add-i : tie.Need-add-i Inv-loop μ-loop
-add-i c = search needs
-
-loop-less : tie.Need-loop-less Inv-loop μ-loop
-loop-less c = search needs
-
 loop-again : tie.Need-loop-again Inv-loop μ-loop
 loop-again c = let l = c .before .before .before .loop in
     let a = c .before .before .before .before .args in
@@ -47,9 +29,6 @@ loop-again c = let l = c .before .before .before .loop in
           (rw (ahead-at (l .«record») (a .«record» .now) (l .i) (l .inv .3))) (l .inv .2),
       ahead-more (l .«record») (a .«record» .now) (l .i) _ (l .inv .3),
     )
-
-same-length : tie.Need-same-length Inv-loop μ-loop
-same-length c = search needs
 
 returns : tie.Need-returns Inv-loop μ-loop
 returns c = let l = c .before .loop in
@@ -65,12 +44,12 @@ raise-spec =
     (tie.spec
     Inv-loop
     μ-loop
-    loop-holds
-    slice-read-record
-    shared-slice-read-record
-    slice-write-record
-    add-i
-    loop-less
+    (λ c. search needs)
+    (λ c. search needs)
+    (λ c. search needs)
+    (λ c. search needs)
+    (λ c. search needs)
+    (λ c. search needs)
     loop-again
-    same-length
+    (λ c. search needs)
     returns)

@@ -1,5 +1,5 @@
 use native.Mathlib.Nat.{sub-zero}
-use Rattle.gate.proofs.Bytewise.{part-size, part-length}
+use Rattle.gate.proofs.Bytewise.{part-size}
 use Prim.Native.Nat.{_≤_, _-_, _*_}
 use mathlib.Core.Path.{_≡_, refl, sym, _∙_}
 use lib.ListN.{length, drop}
@@ -23,35 +23,6 @@ abbrev μ-loop : tie.MeasureT-loop
 loop-holds : tie.Need-loop-holds Inv-loop μ-loop
 loop-holds c = (search needs, refl, rw sub-zero)
 
-mul-raise : tie.Need-mul-raise Inv-loop μ-loop
-mul-raise c = search needs
-
-mul-raise-2 : tie.Need-mul-raise-2 Inv-loop μ-loop
-mul-raise-2 c = search needs
-
-add-raise : tie.Need-add-raise Inv-loop μ-loop
-add-raise c = search needs
-
-sub-raise : tie.Need-sub-raise Inv-loop μ-loop
-sub-raise c = search needs
-
-part-raise-start : tie.Need-part-raise-start Inv-loop μ-loop
-part-raise-start c = search needs
-
-part-raise-end : tie.Need-part-raise-end Inv-loop μ-loop
-part-raise-end c = search needs
-
-raise-requires : tie.Need-raise-requires Inv-loop μ-loop
-raise-requires c κs = let a = c .before .before .before .before .before .before .args in
-    let l = c .before .before .before .loop in
-    l .inv .1 ∙ c .before .before .before .before .before .before .pre .0 ∙ sym (part-length (a .writes .now) (a .n) (l .k) (c .before .before .loop-test .taken) (c .before .before .before .before .before .before .pre .1))
-
-add-k : tie.Need-add-k Inv-loop μ-loop
-add-k c = search needs
-
-loop-less : tie.Need-loop-less Inv-loop μ-loop
-loop-less c = search needs
-
 loop-again : tie.Need-loop-again Inv-loop μ-loop
 loop-again c = let a = c .before .before .before .before .before .before .before .before .before .args in
     let l = c .before .before .before .before .before .before .loop in
@@ -60,9 +31,6 @@ loop-again c = let a = c .before .before .before .before .before .before .before
       c .before .before .raise .kept .0 ∙ l .inv .1,
       rw raised (applied-more (spread 8 (a .«record» .now)) (spread 8 (l .«record»)) (a .writes .now) (a .n) (l .k) (c .before .before .before .before .before .loop-test .taken) (l .inv .2)),
     )
-
-same-length : tie.Need-same-length Inv-loop μ-loop
-same-length c = search needs
 
 returns : tie.Need-returns Inv-loop μ-loop
 returns c = let l = c .before .loop in
@@ -76,15 +44,15 @@ raise-all-spec =
     Inv-loop
     μ-loop
     loop-holds
-    mul-raise
-    mul-raise-2
-    add-raise
-    sub-raise
-    part-raise-start
-    part-raise-end
-    raise-requires
-    add-k
-    loop-less
+    (λ c. search needs)
+    (λ c. search needs)
+    (λ c. search needs)
+    (λ c. search needs)
+    (λ c. search needs)
+    (λ c. search needs)
+    (λ c κs. search needs)
+    (λ c. search needs)
+    (λ c. search needs)
     loop-again
-    same-length
+    (λ c. search needs)
     returns)

@@ -22,56 +22,23 @@ cardOf : (s : tie.Start) → unread (s .args .order) (lengthsOf (s .args .list .
     → Card (s .args .order) (s .args .list .now) (s .args .file .now) (lentOf s)
 cardOf s = unread-none (s .args .order) (s .args .list .now) (s .args .file .now) (lentOf s)
 
-refused-unread-requires : tie.Need-refused-unread-requires
-refused-unread-requires c κs = search needs
-
-refused-requires : tie.Need-refused-requires
-refused-requires c κs = search needs
-
 returns : tie.Need-returns
 returns c = rw (c .refused .ensures) (refused-unread _ _ _ _ _ (c .before .before .refused-unread .ensures) (c .before .if1 .taken))
-
-read-requires : tie.Need-read-requires
-read-requires c κs = search needs
-
-refused-requires-2 : tie.Need-refused-requires-2
-refused-requires-2 c κs = search needs
-
-same-length : tie.Need-same-length
-same-length c = search needs
 
 returns-2 : tie.Need-returns-2
 returns-2 c =
     let card = cardOf (c .before .before .before .before .before .before .before .before .before .before .before .before .before) (sym (c .before .before .before .before .before .before .refused-unread .ensures) ∙ c .before .before .before .before .before .if1 .left) in
     rw (c .refused2 .ensures) (refused-list _ _ _ _ card _ (c .before .before .before .read .ensures) (c .before .if2 .taken))
 
-slice-aggregate-mark-all : tie.Need-slice-aggregate-mark-all
-slice-aggregate-mark-all c = search needs
-
 mark-all-requires : tie.Need-mark-all-requires
 mark-all-requires c κs =
     let card = cardOf (c .before .before .before .before .before .before .before .before .before .before .before .before .before) (sym (c .before .before .before .before .before .before .refused-unread .ensures) ∙ c .before .before .before .before .before .if1 .left) in
     (refl, card .records-long)
 
-refused-requires-3 : tie.Need-refused-requires-3
-refused-requires-3 c κs = search needs
-
-same-length-2 : tie.Need-same-length-2
-same-length-2 c = search needs
-
 returns-3 : tie.Need-returns-3
 returns-3 c =
     let card = cardOf (c .before .before .before .before .before .before .before .before .before .before .before .before .before .before .before .before .before .before) (sym (c .before .before .before .before .before .before .before .before .before .before .before .refused-unread .ensures) ∙ c .before .before .before .before .before .before .before .before .before .before .if1 .left) in
     rw (c .refused3 .ensures) (refused-events _ _ _ _ card _ (c .before .before .before .before .before .before .before .before .read .ensures) (c .before .before .before .before .before .before .if2 .left) (c .before .before .before .before .mark-all .ensures) (c .before .if3 .taken))
-
-read-requires-2 : tie.Need-read-requires-2
-read-requires-2 c κs = search needs
-
-enum-known-contract : tie.Need-enum-known-contract
-enum-known-contract c = search needs
-
-slice-aggregate-place : tie.Need-slice-aggregate-place
-slice-aggregate-place c = search needs
 
 place-requires : tie.Need-place-requires
 place-requires c κs =
@@ -83,25 +50,10 @@ store-requires c κs =
     let card = cardOf (c .before .before .before .before .before .before .before .before .before .before .before .before .before .before .before .before .before .before .before .before .before .before .before .before .before) (sym (c .before .before .before .before .before .before .before .before .before .before .before .before .before .before .before .before .before .before .refused-unread .ensures) ∙ c .before .before .before .before .before .before .before .before .before .before .before .before .before .before .before .before .before .if1 .left) in
     place-inside _ _ _ _ card _ _ _ (c .before .before .place .ensures)
 
-enum-known-refusal : tie.Need-enum-known-refusal
-enum-known-refusal c = search needs
-
-refused-requires-4 : tie.Need-refused-requires-4
-refused-requires-4 c κs = search needs
-
-same-length-3 : tie.Need-same-length-3
-same-length-3 c = search needs
-
-same-length-4 : tie.Need-same-length-4
-same-length-4 c = search needs
-
 returns-4 : tie.Need-returns-4
 returns-4 c =
     let card = cardOf (c .before .before .before .before .before .before .before .before .before .before .before .before .before .before .before .before .before .before .before .before .before .before .before .before .before .before .before .before .before .before) (sym (c .before .before .before .before .before .before .before .before .before .before .before .before .before .before .before .before .before .before .before .before .before .before .before .refused-unread .ensures) ∙ c .before .before .before .before .before .before .before .before .before .before .before .before .before .before .before .before .before .before .before .before .before .before .if1 .left) in
     c .before .before .before .before .store .ensures ∙ loads _ _ _ _ card _ (c .before .before .before .before .before .before .before .before .before .before .before .before .before .before .before .before .before .before .before .before .read .ensures) (c .before .before .before .before .before .before .before .before .before .before .before .before .before .before .before .before .before .before .if2 .left) (c .before .before .before .before .before .before .before .before .before .before .before .before .before .before .before .before .mark-all .ensures) (c .before .before .before .before .before .before .before .before .before .before .before .before .before .if3 .left) _ _ (sym (contract-one _ _ (c .before .before .before .before .before .before .before .before .before .before .before .before .read2 .ensures)) ∙ c .before .before .before .before .before .before .before .before .before .before .contract .given .1) (λ i. c .before .before .before .before .before .before .before .before .before .before .before .before .before .before .before .before .before .before .before .before .before .before .before .before .shared-slice-known4 .given i .fits) (c .before .before .before .before .before .before .before .place .ensures)
-
-same-length-5 : tie.Need-same-length-5
-same-length-5 c = search needs
 
 returns-5 : tie.Need-returns-5
 returns-5 c =
@@ -112,27 +64,27 @@ pub load-spec : {M : Type 1} → statement M
 load-spec =
     tie.close
     (tie.spec
-    refused-unread-requires
-    refused-requires
+    (λ c κs. search needs)
+    (λ c κs. search needs)
     returns
-    read-requires
-    refused-requires-2
-    same-length
+    (λ c κs. search needs)
+    (λ c κs. search needs)
+    (λ c. search needs)
     returns-2
-    slice-aggregate-mark-all
+    (λ c. search needs)
     mark-all-requires
-    refused-requires-3
-    same-length-2
+    (λ c κs. search needs)
+    (λ c. search needs)
     returns-3
-    read-requires-2
-    enum-known-contract
-    slice-aggregate-place
+    (λ c κs. search needs)
+    (λ c. search needs)
+    (λ c. search needs)
     place-requires
     store-requires
-    enum-known-refusal
-    refused-requires-4
-    same-length-3
-    same-length-4
+    (λ c. search needs)
+    (λ c κs. search needs)
+    (λ c. search needs)
+    (λ c. search needs)
     returns-4
-    same-length-5
+    (λ c. search needs)
     returns-5)

@@ -4,9 +4,6 @@ use borrow.Author.Needs.{needs}
 use Rattle.selection.proofs.better.Statement.{statement}
 use Rattle.selection.proofs.better.Tie as tie
 
-at-requires : tie.Need-at-requires
-at-requires c κs = search needs
-
 returns : tie.Need-returns
 returns c =
     let a = c .before .before .before .before .before .args in
@@ -18,4 +15,4 @@ returns-2 c =
     not-better (a .ok) (a .position) (a .entry) (a .best) (c .if1 .left)
 
 pub better-spec : {M : Type 1} → statement M
-better-spec = tie.close (tie.spec at-requires returns returns-2)
+better-spec = tie.close (tie.spec (λ c κs. search needs) returns returns-2)

@@ -15,31 +15,13 @@ returns-2 : tie.Need-returns-2
 unfolding changing
 returns-2 c = rw (eq-eqb _ _ (c .before .if1 .left), c .if2 .taken)
 
-read-requires : tie.Need-read-requires
-read-requires c κs = search needs
-
-same-length : tie.Need-same-length
-same-length c = search needs
-
 returns-3 : tie.Need-returns-3
 unfolding changing
 returns-3 c = rw (eq-eqb _ _ (c .before .before .before .before .before .before .if1 .left), c .before .before .before .before .before .if2 .left, ← c .before .before .before .read .ensures, ne-eqb _ _ (c .before .if3 .taken))
 
-same-length-2 : tie.Need-same-length-2
-same-length-2 c = search needs
-
 returns-4 : tie.Need-returns-4
 unfolding changing
 returns-4 c = rw (eq-eqb _ _ (c .before .before .before .before .before .before .before .before .if1 .left), c .before .before .before .before .before .before .before .if2 .left, ← c .before .before .before .before .before .read .ensures, eq-eqb _ _ (c .before .before .before .if3 .left), lt-ltb _ _ (c .if4 .taken))
-
-with-priority-requires : tie.Need-with-priority-requires
-with-priority-requires c κs = search needs
-
-write-requires : tie.Need-write-requires
-write-requires c κs = search needs
-
-same-length-3 : tie.Need-same-length-3
-same-length-3 c = search needs
 
 returns-5 : tie.Need-returns-5
 unfolding changing
@@ -51,12 +33,12 @@ change-priority-spec =
     (tie.spec
     returns
     returns-2
-    read-requires
-    same-length
+    (λ c κs. search needs)
+    (λ c. search needs)
     returns-3
-    same-length-2
+    (λ c. search needs)
     returns-4
-    with-priority-requires
-    write-requires
-    same-length-3
+    (λ c κs. search needs)
+    (λ c κs. search needs)
+    (λ c. search needs)
     returns-5)

@@ -24,33 +24,6 @@ eight c = search (needs, length-of-map)
 loop-holds : tie.Need-loop-holds Inv-loop μ-loop
 loop-holds c = (search needs, record { to = refl })
 
-mul-entry : tie.Need-mul-entry Inv-loop μ-loop
-mul-entry c = search needs
-
-element-copy-out-entry : tie.Need-element-copy-out-entry Inv-loop μ-loop
-element-copy-out-entry c = search needs
-
-cast-if1 : tie.Need-cast-if1 Inv-loop μ-loop
-cast-if1 c = search needs
-
-eligible-requires : tie.Need-eligible-requires Inv-loop μ-loop
-eligible-requires c κs = search needs
-
-cast-better : tie.Need-cast-better Inv-loop μ-loop
-cast-better c = search needs
-
-add-better : tie.Need-add-better Inv-loop μ-loop
-add-better c = search needs
-
-better-requires : tie.Need-better-requires Inv-loop μ-loop
-better-requires c κs = search needs
-
-add-i : tie.Need-add-i Inv-loop μ-loop
-add-i c = search needs
-
-loop-less : tie.Need-loop-less Inv-loop μ-loop
-loop-less c = search needs
-
 loop-again : tie.Need-loop-again Inv-loop μ-loop
 loop-again c = (
   search needs,
@@ -70,14 +43,14 @@ choose-spec =
     Inv-loop
     μ-loop
     loop-holds
-    mul-entry
-    element-copy-out-entry
-    cast-if1
-    eligible-requires
-    cast-better
-    add-better
-    better-requires
-    add-i
-    loop-less
+    (λ c. search needs)
+    (λ c. search needs)
+    (λ c. search needs)
+    (λ c κs. search needs)
+    (λ c. search needs)
+    (λ c. search needs)
+    (λ c κs. search needs)
+    (λ c. search needs)
+    (λ c. search needs)
     loop-again
     returns)

@@ -7,29 +7,11 @@ use borrow.Author.Needs.{needs}
 use Rattle.selection.proofs.eligible.Statement.{statement}
 use Rattle.selection.proofs.eligible.Tie as tie
 
-part-requires : tie.Need-part-requires
-part-requires c κs = search needs
-
-read-requires : tie.Need-read-requires
-read-requires c κs = search needs
-
-enum-known-contract : tie.Need-enum-known-contract
-enum-known-contract c = search needs
-
-enum-told : tie.Need-enum-told
-enum-told c = search needs
-
 returns : tie.Need-returns
 returns c =
     let e = c .before .before .before .before .before .args .entry in
     let read = contract-one (c .before .before .read .result) (contractRead (e .kind) (c .before .before .before .part .result .now)) (c .before .before .read .ensures) in
     rw (← c .before .before .before .part .ensures, ← read, c .enum-told .given .1) (sym (and-false (leb (e .priority) 11)))
-
-opens-requires : tie.Need-opens-requires
-opens-requires c κs = search needs
-
-in-force-requires : tie.Need-in-force-requires
-in-force-requires c κs = search needs
 
 returns-2 : tie.Need-returns-2
 returns-2 c =
@@ -41,11 +23,11 @@ pub eligible-spec : {M : Type 1} → statement M
 eligible-spec =
     tie.close
     (tie.spec
-    part-requires
-    read-requires
-    enum-known-contract
-    enum-told
+    (λ c κs. search needs)
+    (λ c κs. search needs)
+    (λ c. search needs)
+    (λ c. search needs)
     returns
-    opens-requires
-    in-force-requires
+    (λ c κs. search needs)
+    (λ c κs. search needs)
     returns-2)

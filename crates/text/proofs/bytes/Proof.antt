@@ -17,15 +17,6 @@ returns-2 c = let a = c .before .before .before .before .args in
     let other : length (a .text .now) ≡ 2 * length (a .out .now) → ⊥ = λ e. c .if2 .taken (omega arith) in
     (rw (ne-eqb (length (a .text .now)) (2 * length (a .out .now)) other), refl)
 
-all-digits-requires : tie.Need-all-digits-requires
-all-digits-requires c κs = search needs
-
-fill-requires : tie.Need-fill-requires
-fill-requires c κs = search needs
-
-same-length : tie.Need-same-length
-same-length c = search needs
-
 returns-3 : tie.Need-returns-3
 returns-3 c = let a = c .before .before .before .before .before .before .before .before .before .before .args in
     let sized : length (a .text .now) ≡ 2 * length (a .out .now) = omega (arith, c .before .before .before .before .before .before .if2 .left, c .before .before .before .before .before .before .before .if1 .left) in
@@ -39,4 +30,4 @@ returns-4 c = let a = c .before .before .before .before .before .before .args in
 pub bytes-spec : {M : Type 1} → statement M
 bytes-spec =
     tie.close
-    (tie.spec returns returns-2 all-digits-requires fill-requires same-length returns-3 returns-4)
+    (tie.spec returns returns-2 (λ c κs. search needs) (λ c κs. search needs) (λ c. search needs) returns-3 returns-4)

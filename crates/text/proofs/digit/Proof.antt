@@ -6,9 +6,6 @@ use borrow.Author.Needs.{needs}
 use Rattle.text.proofs.digit.Statement.{statement}
 use Rattle.text.proofs.digit.Tie as tie
 
-sub-result : tie.Need-sub-result
-sub-result c = search needs
-
 returns : tie.Need-returns
 returns c = let x = c .before .before .args .b in let low : 48 ≤ x = omega arith in let high : x ≤ 57 = omega arith in rw (le-leb 48 x low, le-leb x 57 high)
 
@@ -25,4 +22,4 @@ returns-5 : tie.Need-returns-5
 returns-5 c = rw (le-leb _ _ (c .before .before .before .if1 .left), lt-leb _ _ (c .before .before .if2 .left), le-leb _ _ (c .before .if3 .left), lt-leb _ _ (c .if4 .left))
 
 pub digit-spec : {M : Type 1} → statement M
-digit-spec = tie.close (tie.spec sub-result returns returns-2 returns-3 returns-4 returns-5)
+digit-spec = tie.close (tie.spec (λ c. search needs) returns returns-2 returns-3 returns-4 returns-5)

@@ -25,27 +25,6 @@ abbrev μ-loop : tie.MeasureT-loop
 loop-holds : tie.Need-loop-holds Inv-loop μ-loop
 loop-holds c = (search needs, refl, rw sub-zero)
 
-mul-digit : tie.Need-mul-digit Inv-loop μ-loop
-mul-digit c = search needs
-
-shared-slice-read-digit : tie.Need-shared-slice-read-digit Inv-loop μ-loop
-shared-slice-read-digit c = search needs
-
-digit-requires : tie.Need-digit-requires Inv-loop μ-loop
-digit-requires c κs = search needs
-
-mul-digit-2 : tie.Need-mul-digit-2 Inv-loop μ-loop
-mul-digit-2 c = search needs
-
-add-digit : tie.Need-add-digit Inv-loop μ-loop
-add-digit c = search needs
-
-shared-slice-read-digit-2 : tie.Need-shared-slice-read-digit-2 Inv-loop μ-loop
-shared-slice-read-digit-2 c = search needs
-
-digit-requires-2 : tie.Need-digit-requires-2 Inv-loop μ-loop
-digit-requires-2 c κs = search needs
-
 pair-requires : tie.Need-pair-requires Inv-loop μ-loop
 pair-requires c κs = let a = c .before .before .before .before .before .before .before .before .args in
     let l = c .before .before .before .before .before .loop in
@@ -55,15 +34,6 @@ pair-requires c κs = let a = c .before .before .before .before .before .before 
       rw (c .digit2 .ensures) (digit-at (a .text .now) (2 * l .i + 1) (c .before .before .before .before .before .before .before .before .pre .1) inside),
     )
 
-slice-write-out : tie.Need-slice-write-out Inv-loop μ-loop
-slice-write-out c = search needs
-
-add-i : tie.Need-add-i Inv-loop μ-loop
-add-i c = search needs
-
-loop-less : tie.Need-loop-less Inv-loop μ-loop
-loop-less c = search needs
-
 loop-again : tie.Need-loop-again Inv-loop μ-loop
 loop-again c = let a = c .before .before .before .before .before .before .before .before .before .args in
     let l = c .before .before .before .before .before .before .loop in (
@@ -72,9 +42,6 @@ loop-again c = let a = c .before .before .before .before .before .before .before
       rw (c .pair .ensures)
           (spelt-more (a .text .now) (l .out) (length (a .out .now)) (l .i) _ _ (omega (arith, l .inv .1)) (l .inv .1) (c .before .before .before .digit .ensures) (c .before .digit2 .ensures) (l .inv .2)),
     )
-
-same-length : tie.Need-same-length Inv-loop μ-loop
-same-length c = search needs
 
 returns : tie.Need-returns Inv-loop μ-loop
 returns c = let l = c .before .loop in
@@ -90,17 +57,17 @@ fill-spec =
     Inv-loop
     μ-loop
     loop-holds
-    mul-digit
-    shared-slice-read-digit
-    digit-requires
-    mul-digit-2
-    add-digit
-    shared-slice-read-digit-2
-    digit-requires-2
+    (λ c. search needs)
+    (λ c. search needs)
+    (λ c κs. search needs)
+    (λ c. search needs)
+    (λ c. search needs)
+    (λ c. search needs)
+    (λ c κs. search needs)
     pair-requires
-    slice-write-out
-    add-i
-    loop-less
+    (λ c. search needs)
+    (λ c. search needs)
+    (λ c. search needs)
     loop-again
-    same-length
+    (λ c. search needs)
     returns)

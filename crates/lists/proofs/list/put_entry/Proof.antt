@@ -6,21 +6,6 @@ use borrow.Author.Needs.{needs}
 use Rattle.lists.proofs.list.put_entry.Statement.{statement}
 use Rattle.lists.proofs.list.put_entry.Tie as tie
 
-number-requires : tie.Need-number-requires
-number-requires c κs = search needs
-
-number-requires-2 : tie.Need-number-requires-2
-number-requires-2 c κs = search needs
-
-tariff-requires : tie.Need-tariff-requires
-tariff-requires c κs = search needs
-
-number-requires-3 : tie.Need-number-requires-3
-number-requires-3 c κs = search needs
-
-same-length : tie.Need-same-length
-same-length c = search needs
-
 returns : tie.Need-returns
 returns c = let e = c .before .before .before .before .before .before .before .before .before .before .before .before .before .before .before .before .before .args .e in
     record {
@@ -36,9 +21,9 @@ pub put-entry-spec : {M : Type 1} → statement M
 put-entry-spec =
     tie.close
     (tie.spec
-    number-requires
-    number-requires-2
-    tariff-requires
-    number-requires-3
-    same-length
+    (λ c κs. search needs)
+    (λ c κs. search needs)
+    (λ c κs. search needs)
+    (λ c κs. search needs)
+    (λ c. search needs)
     returns)

@@ -5,18 +5,6 @@ use borrow.Author.Needs.{needs}
 use Rattle.lists.proofs.list.take_entry.Statement.{statement}
 use Rattle.lists.proofs.list.take_entry.Tie as tie
 
-number-requires : tie.Need-number-requires
-number-requires c κs = search needs
-
-number-requires-2 : tie.Need-number-requires-2
-number-requires-2 c κs = search needs
-
-tariff-requires : tie.Need-tariff-requires
-tariff-requires c κs = search needs
-
-number-requires-3 : tie.Need-number-requires-3
-number-requires-3 c κs = search needs
-
 returns : tie.Need-returns
 returns c = record {
   ready = c .number3 .ensures .ready;
@@ -33,4 +21,4 @@ returns c = record {
 pub take-entry-spec : {M : Type 1} → statement M
 take-entry-spec =
     tie.close
-    (tie.spec number-requires number-requires-2 tariff-requires number-requires-3 returns)
+    (tie.spec (λ c κs. search needs) (λ c κs. search needs) (λ c κs. search needs) (λ c κs. search needs) returns)

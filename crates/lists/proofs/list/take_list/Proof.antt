@@ -6,33 +6,6 @@ use borrow.Author.Needs.{needs}
 use Rattle.lists.proofs.list.take_list.Statement.{statement}
 use Rattle.lists.proofs.list.take_list.Tie as tie
 
-at-most-requires : tie.Need-at-most-requires
-at-most-requires c κs = search needs
-
-take-entry-requires : tie.Need-take-entry-requires
-take-entry-requires c κs = search needs
-
-take-entry-requires-2 : tie.Need-take-entry-requires-2
-take-entry-requires-2 c κs = search needs
-
-take-entry-requires-3 : tie.Need-take-entry-requires-3
-take-entry-requires-3 c κs = search needs
-
-take-entry-requires-4 : tie.Need-take-entry-requires-4
-take-entry-requires-4 c κs = search needs
-
-take-entry-requires-5 : tie.Need-take-entry-requires-5
-take-entry-requires-5 c κs = search needs
-
-take-entry-requires-6 : tie.Need-take-entry-requires-6
-take-entry-requires-6 c κs = search needs
-
-take-entry-requires-7 : tie.Need-take-entry-requires-7
-take-entry-requires-7 c κs = search needs
-
-take-entry-requires-8 : tie.Need-take-entry-requires-8
-take-entry-requires-8 c κs = search needs
-
 returns : tie.Need-returns
 unfolding contractList
 returns c = record {
@@ -53,13 +26,13 @@ pub take-list-spec : {M : Type 1} → statement M
 take-list-spec =
     tie.close
     (tie.spec
-    at-most-requires
-    take-entry-requires
-    take-entry-requires-2
-    take-entry-requires-3
-    take-entry-requires-4
-    take-entry-requires-5
-    take-entry-requires-6
-    take-entry-requires-7
-    take-entry-requires-8
+    (λ c κs. search needs)
+    (λ c κs. search needs)
+    (λ c κs. search needs)
+    (λ c κs. search needs)
+    (λ c κs. search needs)
+    (λ c κs. search needs)
+    (λ c κs. search needs)
+    (λ c κs. search needs)
+    (λ c κs. search needs)
     returns)

@@ -10,42 +10,15 @@ returns : tie.Need-returns
 unfolding contractList
 returns c = list-unwritten (listFault (c .before .before .args .n)) _ _ _ _ (c .if1 .taken)
 
-outside-requires : tie.Need-outside-requires
-outside-requires c κs = search needs
-
 returns-2 : tie.Need-returns-2
 unfolding contractList
 returns-2 c = list-unwritten-outside (listFault (c .before .before .before .before .args .n)) _ _ _ _ (c .before .before .if1 .left) (rw (c .before .outside .ensures) at (c .if2 .taken))
-
-slice-aggregate-put-list : tie.Need-slice-aggregate-put-list
-slice-aggregate-put-list c = search needs
-
-put-list-requires : tie.Need-put-list-requires
-put-list-requires c κs = search needs
-
-at-fault-requires : tie.Need-at-fault-requires
-at-fault-requires c κs = search needs
-
-obeyed-requires : tie.Need-obeyed-requires
-obeyed-requires c κs = search needs
-
-slice-aggregate-end : tie.Need-slice-aggregate-end
-slice-aggregate-end c = search needs
-
-end-requires : tie.Need-end-requires
-end-requires c κs = search needs
-
-same-length : tie.Need-same-length
-same-length c = search needs
 
 returns-3 : tie.Need-returns-3
 unfolding contractList
 returns-3 c = let inside = rw (c .before .before .before .before .before .before .before .before .before .before .before .before .before .outside .ensures) at (c .before .before .before .before .before .before .before .before .before .before .before .before .if2 .left) in
     let last = rw (c .before .before .before .before .before .before .before .before .at-fault .ensures) at (c .before .before .before .before .before .before .before .obeyed .ensures) in
     list-written (listFault (c .before .before .before .before .before .before .before .before .before .before .before .before .before .before .before .before .args .n)) _ (contractList (c .before .before .before .before .before .before .before .before .before .before .before .before .before .before .before .before .args .n)) _ _ _ _ _ _ _ _ (c .before .before .before .before .before .before .before .before .before .before .before .before .before .before .if1 .left) inside refl refl (c .before .before .before .before .before .before .before .before .before .before .put-list .ensures) last (c .before .before .before .before .end .ensures) (c .if3 .taken)
-
-same-length-2 : tie.Need-same-length-2
-same-length-2 c = search needs
 
 returns-4 : tie.Need-returns-4
 unfolding contractList
@@ -58,15 +31,15 @@ write-spec =
     tie.close
     (tie.spec
     returns
-    outside-requires
+    (λ c κs. search needs)
     returns-2
-    slice-aggregate-put-list
-    put-list-requires
-    at-fault-requires
-    obeyed-requires
-    slice-aggregate-end
-    end-requires
-    same-length
+    (λ c. search needs)
+    (λ c κs. search needs)
+    (λ c κs. search needs)
+    (λ c κs. search needs)
+    (λ c. search needs)
+    (λ c κs. search needs)
+    (λ c. search needs)
     returns-3
-    same-length-2
+    (λ c. search needs)
     returns-4)

@@ -1,5 +1,5 @@
 use Prim.Native.Nat.{_-_, _≤_}
-use mathlib.Core.Path.{_≡_, refl, sym, _∙_}
+use mathlib.Core.Path.{_≡_, sym, _∙_}
 use native.Mathlib.Omega.{arith}
 use lib.ListN.{length, take, drop, length-take, drop-of-length-le}
 use borrow.Author.Needs.{needs}
@@ -19,41 +19,17 @@ Inv-loop bitmaps pointers count full limit n i₀ i =
 abbrev μ-loop : tie.MeasureT-loop
 μ-loop bitmaps pointers count full limit n i₀ i = length bitmaps - i
 
-loop-holds : tie.Need-loop-holds Inv-loop μ-loop
-loop-holds c = (search needs, search needs, refl)
-
 returns : tie.Need-returns Inv-loop μ-loop
 returns c = let l = c .before .before .loop in
     let a = c .before .before .before .before .before .args in
     let here : l .i ≡ a .count = omega arith in
     sym (l .inv .2 ∙ rw (here, none-at (a .count) (a .bitmaps .now)))
 
-mul-keeps : tie.Need-mul-keeps Inv-loop μ-loop
-mul-keeps c = search needs
-
-shared-slice-read-keeps : tie.Need-shared-slice-read-keeps Inv-loop μ-loop
-shared-slice-read-keeps c = search needs
-
-keeps-requires : tie.Need-keeps-requires Inv-loop μ-loop
-keeps-requires c κs = search needs
-
-cast-result : tie.Need-cast-result Inv-loop μ-loop
-cast-result c = search needs
-
-add-result : tie.Need-add-result Inv-loop μ-loop
-add-result c = search needs
-
 returns-2 : tie.Need-returns-2 Inv-loop μ-loop
 returns-2 c = let l = c .before .before .before .before .before .loop in
     let a = c .before .before .before .before .before .before .before .before .args in
     let more = fault-more (a .full) (a .limit) (a .count) (a .bitmaps .now) (a .pointers .now) (l .i) _ (omega arith) (c .before .before .before .before .loop-test .taken) (c .before .before .before .before .before .before .before .before .pre) (c .before .keeps .ensures) in
     sym (l .inv .2 ∙ rw (not-true (c .before .keeps .result) (c .if2 .taken)) at more)
-
-add-i : tie.Need-add-i Inv-loop μ-loop
-add-i c = search needs
-
-loop-less : tie.Need-loop-less Inv-loop μ-loop
-loop-less c = search needs
 
 loop-again : tie.Need-loop-again Inv-loop μ-loop
 loop-again c = let l = c .before .before .before .before .before .loop in
@@ -73,15 +49,15 @@ first-at-fault-spec =
     (tie.spec
     Inv-loop
     μ-loop
-    loop-holds
+    (λ c. search needs)
     returns
-    mul-keeps
-    shared-slice-read-keeps
-    keeps-requires
-    cast-result
-    add-result
+    (λ c. search needs)
+    (λ c. search needs)
+    (λ c κs. search needs)
+    (λ c. search needs)
+    (λ c. search needs)
     returns-2
-    add-i
-    loop-less
+    (λ c. search needs)
+    (λ c. search needs)
     loop-again
     returns-3)

@@ -6,21 +6,6 @@ use borrow.Author.Needs.{needs}
 use Rattle.lists.proofs.special.put_entry.Statement.{statement}
 use Rattle.lists.proofs.special.put_entry.Tie as tie
 
-number-requires : tie.Need-number-requires
-number-requires c κs = search needs
-
-number-requires-2 : tie.Need-number-requires-2
-number-requires-2 c κs = search needs
-
-number-requires-3 : tie.Need-number-requires-3
-number-requires-3 c κs = search needs
-
-number-requires-4 : tie.Need-number-requires-4
-number-requires-4 c κs = search needs
-
-number-requires-5 : tie.Need-number-requires-5
-number-requires-5 c κs = search needs
-
 same-length : tie.Need-same-length
 same-length c = c .before .before .number5 .kept .0
     ∙ c .before .before .before .before .before .before .number4 .kept .0
@@ -44,10 +29,10 @@ pub put-entry-spec : {M : Type 1} → statement M
 put-entry-spec =
     tie.close
     (tie.spec
-    number-requires
-    number-requires-2
-    number-requires-3
-    number-requires-4
-    number-requires-5
+    (λ c κs. search needs)
+    (λ c κs. search needs)
+    (λ c κs. search needs)
+    (λ c κs. search needs)
+    (λ c κs. search needs)
     same-length
     returns)

@@ -6,33 +6,6 @@ use borrow.Author.Needs.{needs}
 use Rattle.lists.proofs.special.put_list.Statement.{statement}
 use Rattle.lists.proofs.special.put_list.Tie as tie
 
-at-most-requires : tie.Need-at-most-requires
-at-most-requires c κs = search needs
-
-array-copy-out-put-entry : tie.Need-array-copy-out-put-entry
-array-copy-out-put-entry c = search needs
-
-put-entry-requires : tie.Need-put-entry-requires
-put-entry-requires c κs = search needs
-
-array-copy-out-put-entry-2 : tie.Need-array-copy-out-put-entry-2
-array-copy-out-put-entry-2 c = search needs
-
-put-entry-requires-2 : tie.Need-put-entry-requires-2
-put-entry-requires-2 c κs = search needs
-
-array-copy-out-put-entry-3 : tie.Need-array-copy-out-put-entry-3
-array-copy-out-put-entry-3 c = search needs
-
-put-entry-requires-3 : tie.Need-put-entry-requires-3
-put-entry-requires-3 c κs = search needs
-
-array-copy-out-put-entry-4 : tie.Need-array-copy-out-put-entry-4
-array-copy-out-put-entry-4 c = search needs
-
-put-entry-requires-4 : tie.Need-put-entry-requires-4
-put-entry-requires-4 c κs = search needs
-
 same-length : tie.Need-same-length
 same-length c = c .before .before .put-entry4 .kept .0
     ∙ c .before .before .before .before .before .before .before .put-entry3 .kept .0
@@ -53,14 +26,14 @@ pub put-list-spec : {M : Type 1} → statement M
 put-list-spec =
     tie.close
     (tie.spec
-    at-most-requires
-    array-copy-out-put-entry
-    put-entry-requires
-    array-copy-out-put-entry-2
-    put-entry-requires-2
-    array-copy-out-put-entry-3
-    put-entry-requires-3
-    array-copy-out-put-entry-4
-    put-entry-requires-4
+    (λ c κs. search needs)
+    (λ c. search needs)
+    (λ c κs. search needs)
+    (λ c. search needs)
+    (λ c κs. search needs)
+    (λ c. search needs)
+    (λ c κs. search needs)
+    (λ c. search needs)
+    (λ c κs. search needs)
     same-length
     returns)

@@ -6,21 +6,6 @@ use borrow.Author.Needs.{needs}
 use Rattle.lists.proofs.special.take_list.Statement.{statement}
 use Rattle.lists.proofs.special.take_list.Tie as tie
 
-at-most-requires : tie.Need-at-most-requires
-at-most-requires c κs = search needs
-
-take-entry-requires : tie.Need-take-entry-requires
-take-entry-requires c κs = search needs
-
-take-entry-requires-2 : tie.Need-take-entry-requires-2
-take-entry-requires-2 c κs = search needs
-
-take-entry-requires-3 : tie.Need-take-entry-requires-3
-take-entry-requires-3 c κs = search needs
-
-take-entry-requires-4 : tie.Need-take-entry-requires-4
-take-entry-requires-4 c κs = search needs
-
 returns : tie.Need-returns
 unfolding specialList
 returns c = record {
@@ -37,9 +22,9 @@ pub take-list-spec : {M : Type 1} → statement M
 take-list-spec =
     tie.close
     (tie.spec
-    at-most-requires
-    take-entry-requires
-    take-entry-requires-2
-    take-entry-requires-3
-    take-entry-requires-4
+    (λ c κs. search needs)
+    (λ c κs. search needs)
+    (λ c κs. search needs)
+    (λ c κs. search needs)
+    (λ c κs. search needs)
     returns)

@@ -15,34 +15,10 @@ returns-2 : tie.Need-returns-2
 unfolding specialList
 returns-2 c = list-unwritten-outside (specialFault (c .before .before .before .args .s)) _ _ _ _ (c .before .if1 .left) (lt-ltb _ _ (c .if2 .taken))
 
-slice-aggregate-put-list : tie.Need-slice-aggregate-put-list
-slice-aggregate-put-list c = search needs
-
-put-list-requires : tie.Need-put-list-requires
-put-list-requires c κs = search needs
-
-at-fault-requires : tie.Need-at-fault-requires
-at-fault-requires c κs = search needs
-
-obeyed-requires : tie.Need-obeyed-requires
-obeyed-requires c κs = search needs
-
-slice-aggregate-end : tie.Need-slice-aggregate-end
-slice-aggregate-end c = search needs
-
-end-requires : tie.Need-end-requires
-end-requires c κs = search needs
-
-same-length : tie.Need-same-length
-same-length c = search needs
-
 returns-3 : tie.Need-returns-3
 unfolding specialList
 returns-3 c = let last = rw (c .before .before .before .before .before .before .before .before .at-fault .ensures) at (c .before .before .before .before .before .before .before .obeyed .ensures) in
     list-written (specialFault (c .before .before .before .before .before .before .before .before .before .before .before .before .before .before .before .args .s)) _ specialList _ _ _ _ _ _ _ _ (c .before .before .before .before .before .before .before .before .before .before .before .before .before .if1 .left) (le-ltb _ _ (c .before .before .before .before .before .before .before .before .before .before .before .before .if2 .left)) refl refl (c .before .before .before .before .before .before .before .before .before .before .put-list .ensures) last (c .before .before .before .before .end .ensures) (c .if3 .taken)
-
-same-length-2 : tie.Need-same-length-2
-same-length-2 c = search needs
 
 returns-4 : tie.Need-returns-4
 unfolding specialList
@@ -55,13 +31,13 @@ write-spec =
     (tie.spec
     returns
     returns-2
-    slice-aggregate-put-list
-    put-list-requires
-    at-fault-requires
-    obeyed-requires
-    slice-aggregate-end
-    end-requires
-    same-length
+    (λ c. search needs)
+    (λ c κs. search needs)
+    (λ c κs. search needs)
+    (λ c κs. search needs)
+    (λ c. search needs)
+    (λ c κs. search needs)
+    (λ c. search needs)
     returns-3
-    same-length-2
+    (λ c. search needs)
     returns-4)

@@ -3,12 +3,6 @@ use Rattle.loading.proofs.Marks.{added-one, added-far, added-none}
 use Rattle.loading.proofs.blocking.mark.Statement.{statement}
 use Rattle.loading.proofs.blocking.mark.Tie as tie
 
-slice-write-marks : tie.Need-slice-write-marks
-slice-write-marks c = search needs
-
-same-length : tie.Need-same-length
-same-length c = search needs
-
 returns : tie.Need-returns
 returns c = added-one _ _ _ (c .before .if1 .taken) (c .if2 .taken)
 
@@ -19,4 +13,4 @@ returns-3 : tie.Need-returns-3
 returns-3 c = added-none _ _ _ (c .if1 .left)
 
 pub mark-spec : {M : Type 1} → statement M
-mark-spec = tie.close (tie.spec slice-write-marks same-length returns returns-2 returns-3)
+mark-spec = tie.close (tie.spec (λ c. search needs) (λ c. search needs) returns returns-2 returns-3)

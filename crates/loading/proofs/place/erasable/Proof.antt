@@ -4,9 +4,6 @@ use Rattle.loading.proofs.Counted.{upto}
 use Rattle.loading.proofs.place.erasable.Statement.{statement}
 use Rattle.loading.proofs.place.erasable.Tie as tie
 
-cast-result : tie.Need-cast-result
-cast-result c = search needs
-
 shared-slice-read-result : tie.Need-shared-slice-read-result
 shared-slice-read-result c =
     let a = c .before .before .before .before .before .before .args in
@@ -19,4 +16,4 @@ returns-2 : tie.Need-returns-2
 returns-2 c = rw (c .if1 .left)
 
 pub erasable-spec : {M : Type 1} → statement M
-erasable-spec = tie.close (tie.spec cast-result shared-slice-read-result returns returns-2)
+erasable-spec = tie.close (tie.spec (λ c. search needs) shared-slice-read-result returns returns-2)

@@ -1,5 +1,5 @@
 use Prim.Native.Nat.{_-_, _≤_, _<_}
-use mathlib.Core.Path.{_≡_, refl, sym, _∙_}
+use mathlib.Core.Path.{_≡_, sym, _∙_}
 use native.Mathlib.Omega.{arith}
 use lib.ListN.{length, drop}
 use borrow.Author.Needs.{needs}
@@ -18,21 +18,6 @@ Inv-loop marks first last list i₀ i =
 abbrev μ-loop : tie.MeasureT-loop
 μ-loop marks first last list i₀ i = 8 - i
 
-loop-holds : tie.Need-loop-holds Inv-loop μ-loop
-loop-holds c = (search needs, refl)
-
-mul-entry : tie.Need-mul-entry Inv-loop μ-loop
-mul-entry c = search needs
-
-element-copy-out-entry : tie.Need-element-copy-out-entry Inv-loop μ-loop
-element-copy-out-entry c = search needs
-
-cast-if1 : tie.Need-cast-if1 Inv-loop μ-loop
-cast-if1 c = search needs
-
-erasable-requires : tie.Need-erasable-requires Inv-loop μ-loop
-erasable-requires c κs = search needs
-
 returns : tie.Need-returns Inv-loop μ-loop
 returns c =
     let l = c .before .before .before .before .loop in
@@ -40,12 +25,6 @@ returns c =
     let long : length (a .t1 .entries) ≡ 8 = search (needs, length-of-map) in
     let h : l .i < length (a .t1 .entries) = omega arith in
     sym (l .inv .1 ∙ erasable-more (marked (a .marks .now)) (a .first) (a .last) (a .t1 .count) (a .t1 .entries) (l .i) _ h _ _ (c .before .erasable .ensures) (c .if1 .taken))
-
-add-i : tie.Need-add-i Inv-loop μ-loop
-add-i c = search needs
-
-loop-less : tie.Need-loop-less Inv-loop μ-loop
-loop-less c = search needs
 
 loop-again : tie.Need-loop-again Inv-loop μ-loop
 loop-again c =
@@ -69,13 +48,13 @@ first-erasable-spec =
     (tie.spec
     Inv-loop
     μ-loop
-    loop-holds
-    mul-entry
-    element-copy-out-entry
-    cast-if1
-    erasable-requires
+    (λ c. search needs)
+    (λ c. search needs)
+    (λ c. search needs)
+    (λ c. search needs)
+    (λ c κs. search needs)
     returns
-    add-i
-    loop-less
+    (λ c. search needs)
+    (λ c. search needs)
     loop-again
     returns-2)

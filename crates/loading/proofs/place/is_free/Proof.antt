@@ -1,5 +1,5 @@
 use Prim.Native.Nat.{_-_, _≤_, _<_}
-use mathlib.Core.Path.{ap, _≡_, refl, sym, _∙_}
+use mathlib.Core.Path.{ap, _≡_, sym, _∙_}
 use mathlib.Core.Bool.{not}
 use native.Mathlib.Omega.{arith}
 use lib.Dec.{eqb}
@@ -18,18 +18,6 @@ Inv-loop pointer list i₀ i = (i ≤ 8) × (free (counted list) pointer ≡ fre
 abbrev μ-loop : tie.MeasureT-loop
 μ-loop pointer list i₀ i = 8 - i
 
-loop-holds : tie.Need-loop-holds Inv-loop μ-loop
-loop-holds c = (search needs, refl)
-
-mul-entry : tie.Need-mul-entry Inv-loop μ-loop
-mul-entry c = search needs
-
-element-copy-out-entry : tie.Need-element-copy-out-entry Inv-loop μ-loop
-element-copy-out-entry c = search needs
-
-cast-if1 : tie.Need-cast-if1 Inv-loop μ-loop
-cast-if1 c = search needs
-
 returns : tie.Need-returns Inv-loop μ-loop
 returns c =
     let l = c .before .before .before .before .loop in
@@ -37,12 +25,6 @@ returns c =
     let long : length (a .t1 .entries) ≡ 8 = search (needs, length-of-map) in
     let h : l .i < length (a .t1 .entries) = omega arith in
     sym (l .inv .1 ∙ ap not (some-more (λ e. eqb (e .pointer) (a .pointer)) (a .t1 .count) (a .t1 .entries) (l .i) _ h _ (c .if1 .taken)))
-
-add-i : tie.Need-add-i Inv-loop μ-loop
-add-i c = search needs
-
-loop-less : tie.Need-loop-less Inv-loop μ-loop
-loop-less c = search needs
 
 loop-again : tie.Need-loop-again Inv-loop μ-loop
 loop-again c =
@@ -66,12 +48,12 @@ is-free-spec =
     (tie.spec
     Inv-loop
     μ-loop
-    loop-holds
-    mul-entry
-    element-copy-out-entry
-    cast-if1
+    (λ c. search needs)
+    (λ c. search needs)
+    (λ c. search needs)
+    (λ c. search needs)
     returns
-    add-i
-    loop-less
+    (λ c. search needs)
+    (λ c. search needs)
     loop-again
     returns-2)

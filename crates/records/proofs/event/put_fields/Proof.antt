@@ -4,18 +4,6 @@ use borrow.Author.Needs.{needs}
 use Rattle.records.proofs.event.put_fields.Statement.{statement}
 use Rattle.records.proofs.event.put_fields.Tie as tie
 
-put-occasion-requires : tie.Need-put-occasion-requires
-put-occasion-requires c κs = search needs
-
-put-journey-requires : tie.Need-put-journey-requires
-put-journey-requires c κs = search needs
-
-put-account-requires : tie.Need-put-account-requires
-put-account-requires c κs = search needs
-
-same-length : tie.Need-same-length
-same-length c = search needs
-
 returns : tie.Need-returns
 unfolding event
 returns c =
@@ -25,4 +13,4 @@ returns c =
 pub put-fields-spec : {M : Type 1} → statement M
 put-fields-spec =
     tie.close
-    (tie.spec put-occasion-requires put-journey-requires put-account-requires same-length returns)
+    (tie.spec (λ c κs. search needs) (λ c κs. search needs) (λ c κs. search needs) (λ c. search needs) returns)

@@ -1,46 +1,10 @@
 use mathlib.Core.Path.{_∙_}
-use lib.Dec.{lit<, lit≤}
+use lib.Dec.{lit≤}
 use Rattle.rows.specs.table.Event.{event}
 use Rattle.rows.proofs.Putting.{all-put, _◃_, puts-from}
 use borrow.Author.Needs.{needs}
 use Rattle.records.proofs.event.put_occasion.Statement.{statement}
 use Rattle.records.proofs.event.put_occasion.Tie as tie
-
-number-requires : tie.Need-number-requires
-number-requires c κs = (record { within = search needs; longer = rw (c .before .before .pre) (lit< tt) }, lit≤ tt)
-
-at-most-requires : tie.Need-at-most-requires
-at-most-requires c κs = (c .before .before .before .number .ensures .ready, lit≤ tt)
-
-number-requires-2 : tie.Need-number-requires-2
-number-requires-2 c κs = (c .before .before .before .at-most .ensures .ready, lit≤ tt)
-
-number-requires-3 : tie.Need-number-requires-3
-number-requires-3 c κs = (c .before .before .before .number2 .ensures .ready, lit≤ tt)
-
-number-requires-4 : tie.Need-number-requires-4
-number-requires-4 c κs = (c .before .before .before .number3 .ensures .ready, lit≤ tt)
-
-number-requires-5 : tie.Need-number-requires-5
-number-requires-5 c κs = (c .before .before .before .number4 .ensures .ready, lit≤ tt)
-
-number-requires-6 : tie.Need-number-requires-6
-number-requires-6 c κs = (c .before .before .before .number5 .ensures .ready, lit≤ tt)
-
-number-requires-7 : tie.Need-number-requires-7
-number-requires-7 c κs = (c .before .before .before .number6 .ensures .ready, lit≤ tt)
-
-number-requires-8 : tie.Need-number-requires-8
-number-requires-8 c κs = (c .before .before .before .number7 .ensures .ready, lit≤ tt)
-
-number-requires-9 : tie.Need-number-requires-9
-number-requires-9 c κs = (c .before .before .before .number8 .ensures .ready, lit≤ tt)
-
-number-requires-10 : tie.Need-number-requires-10
-number-requires-10 c κs = (c .before .before .before .number9 .ensures .ready, lit≤ tt)
-
-number-requires-11 : tie.Need-number-requires-11
-number-requires-11 c κs = (c .before .before .before .number10 .ensures .ready, lit≤ tt)
 
 same-length : tie.Need-same-length
 same-length c = c .before .before .number11 .kept .0
@@ -83,17 +47,17 @@ pub put-occasion-spec : {M : Type 1} → statement M
 put-occasion-spec =
     tie.close
     (tie.spec
-    number-requires
-    at-most-requires
-    number-requires-2
-    number-requires-3
-    number-requires-4
-    number-requires-5
-    number-requires-6
-    number-requires-7
-    number-requires-8
-    number-requires-9
-    number-requires-10
-    number-requires-11
+    (λ c κs. search needs)
+    (λ c κs. search needs)
+    (λ c κs. search needs)
+    (λ c κs. search needs)
+    (λ c κs. search needs)
+    (λ c κs. search needs)
+    (λ c κs. search needs)
+    (λ c κs. search needs)
+    (λ c κs. search needs)
+    (λ c κs. search needs)
+    (λ c κs. search needs)
+    (λ c κs. search needs)
     same-length
     returns)

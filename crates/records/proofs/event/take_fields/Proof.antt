@@ -4,15 +4,6 @@ use borrow.Author.Needs.{needs}
 use Rattle.records.proofs.event.take_fields.Statement.{statement}
 use Rattle.records.proofs.event.take_fields.Tie as tie
 
-take-occasion-requires : tie.Need-take-occasion-requires
-take-occasion-requires c κs = search needs
-
-take-journey-requires : tie.Need-take-journey-requires
-take-journey-requires c κs = search needs
-
-take-account-requires : tie.Need-take-account-requires
-take-account-requires c κs = search needs
-
 returns : tie.Need-returns
 unfolding event
 returns c =
@@ -25,4 +16,4 @@ returns c =
 
 pub take-fields-spec : {M : Type 1} → statement M
 take-fields-spec =
-    tie.close (tie.spec take-occasion-requires take-journey-requires take-account-requires returns)
+    tie.close (tie.spec (λ c κs. search needs) (λ c κs. search needs) (λ c κs. search needs) returns)

@@ -1,44 +1,12 @@
-use lib.Dec.{lit<, lit≤}
+use borrow.Author.Needs.{needs}
+use lib.Dec.{lit≤}
 use Rattle.rows.specs.inner.Line.{taken, _▸_}
 use Rattle.rows.specs.table.Event.{event}
 use Rattle.records.proofs.event.take_journey.Statement.{statement}
 use Rattle.records.proofs.event.take_journey.Tie as tie
 
-number-requires : tie.Need-number-requires
-number-requires c κs = (c .before .before .before .pre, lit≤ tt)
-
-number-requires-2 : tie.Need-number-requires-2
-number-requires-2 c κs = (c .number .ensures .ready, lit≤ tt)
-
-number-requires-3 : tie.Need-number-requires-3
-number-requires-3 c κs = (c .number2 .ensures .ready, lit≤ tt)
-
-number-requires-4 : tie.Need-number-requires-4
-number-requires-4 c κs = (c .number3 .ensures .ready, lit≤ tt)
-
-number-requires-5 : tie.Need-number-requires-5
-number-requires-5 c κs = (c .number4 .ensures .ready, lit≤ tt)
-
-number-requires-6 : tie.Need-number-requires-6
-number-requires-6 c κs = (c .number5 .ensures .ready, lit≤ tt)
-
-number-requires-7 : tie.Need-number-requires-7
-number-requires-7 c κs = (c .number6 .ensures .ready, lit≤ tt)
-
-number-requires-8 : tie.Need-number-requires-8
-number-requires-8 c κs = (c .number7 .ensures .ready, lit≤ tt)
-
-never-requires : tie.Need-never-requires
-never-requires c κs = (c .number8 .ensures .ready .within, lit< tt)
-
 number-requires-9 : tie.Need-number-requires-9
 number-requires-9 c κs = (c .never .ensures _ (c .before .number8 .ensures .ready .covered) .ready, lit≤ tt)
-
-number-requires-10 : tie.Need-number-requires-10
-number-requires-10 c κs = (c .number9 .ensures .ready, lit≤ tt)
-
-number-requires-11 : tie.Need-number-requires-11
-number-requires-11 c κs = (c .number10 .ensures .ready, lit≤ tt)
 
 returns : tie.Need-returns
 unfolding event
@@ -65,16 +33,16 @@ pub take-journey-spec : {M : Type 1} → statement M
 take-journey-spec =
     tie.close
     (tie.spec
-    number-requires
-    number-requires-2
-    number-requires-3
-    number-requires-4
-    number-requires-5
-    number-requires-6
-    number-requires-7
-    number-requires-8
-    never-requires
+    (λ c κs. search needs)
+    (λ c κs. search needs)
+    (λ c κs. search needs)
+    (λ c κs. search needs)
+    (λ c κs. search needs)
+    (λ c κs. search needs)
+    (λ c κs. search needs)
+    (λ c κs. search needs)
+    (λ c κs. search needs)
     number-requires-9
-    number-requires-10
-    number-requires-11
+    (λ c κs. search needs)
+    (λ c κs. search needs)
     returns)

@@ -1,5 +1,5 @@
 use Prim.Native.Nat.{_+_, _-_, _*_, _≤_}
-use mathlib.Core.Path.{_≡_, refl, _∙_}
+use mathlib.Core.Path.{_≡_, _∙_}
 use native.Mathlib.Omega.{arith}
 use native.Mathlib.Nat.{mul-le-mul-left}
 use lib.ListN.{length, take}
@@ -20,15 +20,6 @@ Inv-loop draft₀ at w letters place₀ i₀ draft place i =
 abbrev μ-loop : tie.MeasureT-loop
 μ-loop draft₀ at w letters place₀ i₀ draft place i = length letters - i
 
-loop-holds : tie.Need-loop-holds Inv-loop μ-loop
-loop-holds c = (search needs, refl, omega arith, λ out start drafted. drafted)
-
-mul-lay : tie.Need-mul-lay Inv-loop μ-loop
-mul-lay c = search needs
-
-shared-slice-read-lay : tie.Need-shared-slice-read-lay Inv-loop μ-loop
-shared-slice-read-lay c = search needs
-
 lay-requires : tie.Need-lay-requires Inv-loop μ-loop
 lay-requires c κs = let a = c .before .before .before .before .before .before .args in
     let l = c .before .before .before .loop in
@@ -42,12 +33,6 @@ add-place c = let a = c .before .before .before .before .before .before .before 
     let inside : a .w * (l .i + 1) ≤ a .w * length (a .letters .now) = mul-le-mul-left (a .w) (omega arith) in
     omega (arith, c .before .before .before .before .before .before .before .before .before .pre .small, l .inv .2)
 
-add-i : tie.Need-add-i Inv-loop μ-loop
-add-i c = search needs
-
-loop-less : tie.Need-loop-less Inv-loop μ-loop
-loop-less c = search needs
-
 loop-again : tie.Need-loop-again Inv-loop μ-loop
 loop-again c = let a = c .before .before .before .before .before .before .before .before .before .args in
     let l = c .before .before .before .before .before .before .loop in (
@@ -56,9 +41,6 @@ loop-again c = let a = c .before .before .before .before .before .before .before
       omega (arith, l .inv .2),
       laid-more (a .draft .now) (l .draft) _ (a .at) (a .w) (a .letters .now) (l .i) (l .place) (c .before .before .before .before .before .loop-test .taken) (l .inv .1) (l .inv .2) (l .inv .3) (c .before .before .lay .ensures),
     )
-
-same-length : tie.Need-same-length Inv-loop μ-loop
-same-length c = search needs
 
 returns : tie.Need-returns Inv-loop μ-loop
 returns c = rw (take-all (c .before .loop .i) (c .before .before .before .before .args .letters .now) (c .loop-test .left)) at (c .before .loop .inv .3)
@@ -69,13 +51,13 @@ lay-all-spec =
     (tie.spec
     Inv-loop
     μ-loop
-    loop-holds
-    mul-lay
-    shared-slice-read-lay
+    (λ c. search needs)
+    (λ c. search needs)
+    (λ c. search needs)
     lay-requires
     add-place
-    add-i
-    loop-less
+    (λ c. search needs)
+    (λ c. search needs)
     loop-again
-    same-length
+    (λ c. search needs)
     returns)

@@ -5,25 +5,13 @@ use borrow.Author.Needs.{needs}
 use Rattle.rows.proofs.put.ruled.Statement.{statement}
 use Rattle.rows.proofs.put.ruled.Tie as tie
 
-width-requires : tie.Need-width-requires
-width-requires c κs = search needs
-
-ruled-requires : tie.Need-ruled-requires
-ruled-requires c κs = search needs
-
 wide-requires : tie.Need-wide-requires
 wide-requires c κs = box-width (c .before .before .before .args .when) (c .before .before .before .args .w) _ 32 (c .before .width .ensures) (c .before .before .before .pre .1)
-
-admit-requires : tie.Need-admit-requires
-admit-requires c κs = search needs
 
 lay-requires : tie.Need-lay-requires
 lay-requires c κs = let a = c .before .before .before .before .before .before .before .before .args in
     lays (a .draft .now) (a .room) (a .c) _ (a .v) _ _ _ (c .before .before .before .before .before .before .before .before .pre .0) (box-width (a .when) (a .w) _ 32 (c .before .before .before .before .before .before .width .ensures) (c .before .before .before .before .before .before .before .before .pre .1))
     (c .before .before .before .before .wide .ensures) (c .before .before .before .admit .ensures) (c .before .if1 .taken)
-
-same-length : tie.Need-same-length
-same-length c = search needs
 
 returns : tie.Need-returns
 returns c = gave-box _ _ _ _ _ _ _ _ _ _ _ _ (c .before .before .before .before .before .before .before .before .before .before .before .pre .0) (c .before .before .lay .kept .0) (c .before .before .before .before .before .before .before .before .before .width .ensures) (c .before .before .before .before .before .before .before .wide .ensures)
@@ -37,11 +25,11 @@ pub ruled-spec : {M : Type 1} → statement M
 ruled-spec =
     tie.close
     (tie.spec
-    width-requires
-    ruled-requires
+    (λ c κs. search needs)
+    (λ c κs. search needs)
     wide-requires
-    admit-requires
+    (λ c κs. search needs)
     lay-requires
-    same-length
+    (λ c. search needs)
     returns
     returns-2)

@@ -18,24 +18,12 @@ packs : (c : tie.After-lay-arg) → Packs (holds (c .before .before .before .bef
 packs c = let a = c .before .before .before .before .before .before .before .before .args in
     packs-clear (a .room) (a .c) (a .when) (a .key) (a .kind) (a .priority) _ _ _ _ (c .before .before .before .before .before .before .width .ensures) (c .before .before .before .before .before .tariff-wide .ensures) (c .before .before .before .admit .ensures) (c .before .if2 .taken)
 
-width-requires : tie.Need-width-requires
-width-requires c κs = search needs
-
-tariff-wide-requires : tie.Need-tariff-wide-requires
-tariff-wide-requires c κs = search needs
-
-admit-requires : tie.Need-admit-requires
-admit-requires c κs = search needs
-
 packed-requires : tie.Need-packed-requires
 packed-requires c κs = packs c .small
 
 lay-requires : tie.Need-lay-requires
 lay-requires c κs = let s = c .before .before .before .before .before .before .before .before .before in
     (omega (arith, s .pre .within, s .pre .longer), (box-width (s .args .when) 16 _ 32 (c .before .before .before .before .before .before .before .width .ensures) (omega arith), rw (c .packed .ensures) (packs (c .before) .whole)))
-
-same-length : tie.Need-same-length
-same-length c = search needs
 
 returns : tie.Need-returns
 returns c = gave-tariff _ _ _ _ _ _ _ _ _ _ _ _ (c .before .before .before .before .before .before .before .before .before .before .before .before .pre) (c .before .before .lay .kept .0) (c .before .before .before .before .before .before .before .before .before .before .width .ensures) (c .before .before .before .before .before .before .before .before .before .tariff-wide .ensures) (ruled (c .before .before .before .before .before .before .before .before)) (c .before .before .before .before .before .before .before .admit .ensures)
@@ -48,11 +36,11 @@ pub tariff-spec : {M : Type 1} → statement M
 tariff-spec =
     tie.close
     (tie.spec
-    width-requires
-    tariff-wide-requires
-    admit-requires
+    (λ c κs. search needs)
+    (λ c κs. search needs)
+    (λ c κs. search needs)
     packed-requires
     lay-requires
-    same-length
+    (λ c. search needs)
     returns
     returns-2)

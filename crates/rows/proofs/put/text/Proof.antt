@@ -9,14 +9,8 @@ use borrow.Author.Needs.{needs}
 use Rattle.rows.proofs.put.text.Statement.{statement}
 use Rattle.rows.proofs.put.text.Tie as tie
 
-width-requires : tie.Need-width-requires
-width-requires c κs = search needs
-
 any-wide-requires : tie.Need-any-wide-requires
 any-wide-requires c κs = box-width (c .before .before .before .args .when) 5 _ 32 (c .width .ensures) (omega arith)
-
-cast-n : tie.Need-cast-n
-cast-n c = search needs
 
 mul-admit : tie.Need-mul-admit
 mul-admit c = let a = c .before .before .before .before .args in
@@ -24,15 +18,9 @@ mul-admit c = let a = c .before .before .before .before .args in
     let product : length (a .letters .now) * c .before .width .result ≤ length (a .letters .now) * 5 = mul-le-mul-left _ narrow in
     omega (arith, c .before .before .before .before .pre .1)
 
-admit-requires : tie.Need-admit-requires
-admit-requires c κs = search needs
-
 lay-all-requires : tie.Need-lay-all-requires
 lay-all-requires c κs = let s = c .before .before .before .before .before .before .before .before in
     lays-all _ _ _ (s .args .when) _ _ _ _ (s .pre .0) (s .fits .room .fits) (c .before .before .before .before .before .width .ensures) (c .before .before .before .before .any-wide .ensures) (c .before .before .before .admit .ensures) (c .before .if1 .taken)
-
-same-length : tie.Need-same-length
-same-length c = search needs
 
 returns : tie.Need-returns
 returns c = gave-text _ _ _ _ _ _ _ _ _ (c .before .before .before .before .before .before .before .before .before .before .before .pre .0) (c .before .before .lay-all .kept .0) (c .before .before .before .before .before .before .before .before .width .ensures) (c .before .before .before .before .before .before .before .any-wide .ensures) (c .before .before .before .before .before .before .admit .ensures) (λ ok. c .before .before .lay-all .ensures)
@@ -44,12 +32,12 @@ pub text-spec : {M : Type 1} → statement M
 text-spec =
     tie.close
     (tie.spec
-    width-requires
+    (λ c κs. search needs)
     any-wide-requires
-    cast-n
+    (λ c. search needs)
     mul-admit
-    admit-requires
+    (λ c κs. search needs)
     lay-all-requires
-    same-length
+    (λ c. search needs)
     returns
     returns-2)

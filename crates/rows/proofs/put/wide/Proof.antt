@@ -23,11 +23,8 @@ fits-shift v w = go (ltb v (2 ^ w)) refl
         omega (arith, ltb-false v (2 ^ w) e) in
         rw (ne-eqb (v / 2 ^ w) 0 above)
 
-shr-result : tie.Need-shr-result
-shr-result c = search needs
-
 returns : tie.Need-returns
 returns c = fits-shift (c .args .v) (c .args .w)
 
 pub wide-spec : {M : Type 1} → statement M
-wide-spec = tie.close (tie.spec shr-result returns)
+wide-spec = tie.close (tie.spec (λ c. search needs) returns)

@@ -11,21 +11,6 @@ use Rattle.rows.proofs.step.width.Tie as tie
 past : (n e : ℕ) → n < 2 ^ 32 → 32 ≤ e → n / 2 ^ e ≡ 0
 past n e small far = div-eq-of-lt (lt-of-lt-of-le small (pow-mono far))
 
-enum-told : tie.Need-enum-told
-enum-told c = search needs
-
-enum-known-when : tie.Need-enum-known-when
-enum-known-when c = search needs
-
-shr-if2 : tie.Need-shr-if2
-shr-if2 c = search needs
-
-enum-known-when-2 : tie.Need-enum-known-when-2
-enum-known-when-2 c = search needs
-
-returns : tie.Need-returns
-returns c = search needs
-
 returns-2 : tie.Need-returns-2
 returns-2 c = rw (c .before .before .before .when .given .1, eq-eqb _ _ (c .if2 .taken))
 
@@ -46,11 +31,11 @@ pub width-spec : {M : Type 1} → statement M
 width-spec =
     tie.close
     (tie.spec
-    enum-told
-    enum-known-when
-    shr-if2
-    enum-known-when-2
-    returns
+    (λ c. search needs)
+    (λ c. search needs)
+    (λ c. search needs)
+    (λ c. search needs)
+    (λ c. search needs)
     returns-2
     returns-3
     returns-4

@@ -5,20 +5,11 @@ use borrow.Author.Needs.{needs}
 use Rattle.rows.proofs.take.ruled.Statement.{statement}
 use Rattle.rows.proofs.take.ruled.Tie as tie
 
-width-requires : tie.Need-width-requires
-width-requires c κs = search needs
-
 number-requires : tie.Need-number-requires
 number-requires c κs = let a = c .before .before .args in (
   omega (arith, c .before .before .pre .0 .within, c .before .before .pre .0 .covered),
   box-width (a .when) (a .w) _ 32 (c .width .ensures) (c .before .before .pre .1),
 )
-
-ruled-requires : tie.Need-ruled-requires
-ruled-requires c κs = search needs
-
-admit-requires : tie.Need-admit-requires
-admit-requires c κs = search needs
 
 returns : tie.Need-returns
 returns c = let a = c .before .before .before .before .before .args in
@@ -28,4 +19,4 @@ returns c = let a = c .before .before .before .before .before .args in
 
 pub ruled-spec : {M : Type 1} → statement M
 ruled-spec =
-    tie.close (tie.spec width-requires number-requires ruled-requires admit-requires returns)
+    tie.close (tie.spec (λ c κs. search needs) number-requires (λ c κs. search needs) (λ c κs. search needs) returns)

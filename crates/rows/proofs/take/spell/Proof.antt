@@ -34,22 +34,10 @@ number-requires c κs = let a = c .before .before .before .before .args in
     let inside : a .w * c .before .loop .i ≤ a .w * length (a .letters .now) = mul-le-mul-left (a .w) (omega arith) in
     (omega (arith, c .before .before .before .before .pre .covered, c .before .loop .inv .2), c .before .before .before .before .pre .narrow)
 
-mul-letters : tie.Need-mul-letters Inv-loop μ-loop
-mul-letters c = search needs
-
-slice-write-letters : tie.Need-slice-write-letters Inv-loop μ-loop
-slice-write-letters c = search needs
-
 add-place : tie.Need-add-place Inv-loop μ-loop
 add-place c = let a = c .before .before .before .before .before .args in
     let inside : a .w * (c .before .before .loop .i + 1) ≤ a .w * length (a .letters .now) = mul-le-mul-left (a .w) (omega arith) in
     omega (arith, c .before .before .before .before .before .pre .small, c .before .before .loop .inv .2)
-
-add-i : tie.Need-add-i Inv-loop μ-loop
-add-i c = search needs
-
-loop-less : tie.Need-loop-less Inv-loop μ-loop
-loop-less c = search needs
 
 loop-again : tie.Need-loop-again Inv-loop μ-loop
 loop-again c = let a = c .before .before .before .before .before .args in
@@ -60,9 +48,6 @@ loop-again c = let a = c .before .before .before .before .before .args in
       omega (arith, l .inv .2),
       rw (c .number .ensures) (spelt-more (a .words .now) (a .at) (a .w) (length (a .letters .now)) (l .letters) (l .i) (l .place) inside (l .inv .1) (l .inv .3)),
     )
-
-same-length : tie.Need-same-length Inv-loop μ-loop
-same-length c = search needs
 
 returns : tie.Need-returns Inv-loop μ-loop
 returns c = let l = c .before .loop in
@@ -80,11 +65,11 @@ spell-spec =
     μ-loop
     loop-holds
     number-requires
-    mul-letters
-    slice-write-letters
+    (λ c. search needs)
+    (λ c. search needs)
     add-place
-    add-i
-    loop-less
+    (λ c. search needs)
+    (λ c. search needs)
     loop-again
-    same-length
+    (λ c. search needs)
     returns)

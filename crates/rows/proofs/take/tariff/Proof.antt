@@ -11,17 +11,11 @@ use borrow.Author.Needs.{needs}
 use Rattle.rows.proofs.take.tariff.Statement.{statement}
 use Rattle.rows.proofs.take.tariff.Tie as tie
 
-width-requires : tie.Need-width-requires
-width-requires c κs = search needs
-
 number-requires : tie.Need-number-requires
 number-requires c κs = let a = c .before .before .args in (
   omega (arith, c .before .before .pre .within, c .before .before .pre .covered),
   box-width (a .when) 16 _ 32 (c .width .ensures) (omega arith),
 )
-
-admit-requires : tie.Need-admit-requires
-admit-requires c κs = search needs
 
 returns : tie.Need-returns
 returns c = let n : c .before .if1 .broken ≡ pick (eqb (c .before .before .number .result % 16) 13) 4 0 =
@@ -29,4 +23,4 @@ returns c = let n : c .before .if1 .broken ≡ pick (eqb (c .before .before .num
     took-tariff _ _ _ _ _ _ _ _ (c .before .before .before .before .before .pre) (c .before .before .before .width .ensures) (c .before .before .number .ensures) n (c .admit .ensures)
 
 pub tariff-spec : {M : Type 1} → statement M
-tariff-spec = tie.close (tie.spec width-requires number-requires admit-requires returns)
+tariff-spec = tie.close (tie.spec (λ c κs. search needs) number-requires (λ c κs. search needs) returns)

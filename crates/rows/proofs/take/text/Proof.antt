@@ -8,25 +8,13 @@ use borrow.Author.Needs.{needs}
 use Rattle.rows.proofs.take.text.Statement.{statement}
 use Rattle.rows.proofs.take.text.Tie as tie
 
-width-requires : tie.Need-width-requires
-width-requires c κs = search needs
-
-cast-n : tie.Need-cast-n
-cast-n c = search needs
-
 mul-admit : tie.Need-mul-admit
 mul-admit c = let narrow : c .width .result ≤ 5 = box-width (c .before .before .before .args .when) 5 _ 5 (c .width .ensures) (omega arith) in
     let product : length (c .before .before .before .args .letters .now) * c .width .result ≤ length (c .before .before .before .args .letters .now) * 5 = mul-le-mul-left _ narrow in
     omega (arith, c .before .before .before .pre .1)
 
-admit-requires : tie.Need-admit-requires
-admit-requires c κs = search needs
-
 spell-requires : tie.Need-spell-requires
 spell-requires c κs = spells _ _ _ (c .before .before .before .before .before .before .before .args .when) _ _ _ (c .before .before .before .before .before .before .before .pre .0) (c .before .before .before .before .before .before .before .fits .end .fits) (c .before .before .before .before .width .ensures) (c .before .before .before .admit .ensures) (c .before .if1 .taken)
-
-same-length : tie.Need-same-length
-same-length c = search needs
 
 returns : tie.Need-returns
 returns c = took-text _ _ _ _ _ _ _ _ (c .before .before .before .before .before .before .before .before .before .before .pre .0) (c .before .before .before .before .before .before .before .width .ensures) (c .before .before .before .before .before .before .admit .ensures) (λ ok. c .before .before .spell .ensures)
@@ -38,11 +26,11 @@ pub text-spec : {M : Type 1} → statement M
 text-spec =
     tie.close
     (tie.spec
-    width-requires
-    cast-n
+    (λ c κs. search needs)
+    (λ c. search needs)
     mul-admit
-    admit-requires
+    (λ c κs. search needs)
     spell-requires
-    same-length
+    (λ c. search needs)
     returns
     returns-2)

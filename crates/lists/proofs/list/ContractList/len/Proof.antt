@@ -7,9 +7,6 @@ use borrow.Author.Needs.{needs}
 use Rattle.lists.proofs.list.ContractList.len.Statement.{statement}
 use Rattle.lists.proofs.list.ContractList.len.Tie as tie
 
-cast-result : tie.Need-cast-result
-cast-result c = search needs
-
 returns : tie.Need-returns
 returns c =
     let eight : length (c .before .before .before .args .self .entries) ≡ 8 = search (needs, length-of-map) in
@@ -21,4 +18,4 @@ returns-2 c =
     omega (arith, length-counted (c .before .before .args .self) eight, c .if1 .left)
 
 pub len-spec : {M : Type 1} → statement M
-len-spec = tie.close (tie.spec cast-result returns returns-2)
+len-spec = tie.close (tie.spec (λ c. search needs) returns returns-2)

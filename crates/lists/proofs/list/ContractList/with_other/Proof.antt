@@ -6,11 +6,8 @@ use Rattle.lists.proofs.list.ContractList.with_other.Tie as tie
 returns : tie.Need-returns
 returns c = rw (eq-eqb _ _ (c .if1 .taken))
 
-with-requires : tie.Need-with-requires
-with-requires c κs = search needs
-
 returns-2 : tie.Need-returns-2
 returns-2 c = rw (ne-eqb _ _ (c .before .if1 .left)) (c .with .ensures)
 
 pub with-other-spec : {M : Type 1} → statement M
-with-other-spec = tie.close (tie.spec returns with-requires returns-2)
+with-other-spec = tie.close (tie.spec returns (λ c κs. search needs) returns-2)

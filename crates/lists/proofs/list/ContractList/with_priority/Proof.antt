@@ -14,16 +14,10 @@ returns-2 c =
     let eight : length (c .before .before .args .t1 .entries) ≡ 8 = search (needs, length-of-map) in
     no-room _ _ _ (rw eight (c .if2 .taken))
 
-mul-self : tie.Need-mul-self
-mul-self c = search needs
-
-way-write-given-self : tie.Need-way-write-given-self
-way-write-given-self c = search needs
-
 returns-3 : tie.Need-returns-3
 returns-3 c =
     let eight : length (c .before .before .before .args .t1 .entries) ≡ 8 = search (needs, length-of-map) in
     stored (c .before .before .before .args .t1) (c .before .before .before .args .position) _ _ (c .before .before .if1 .left) (rw eight (c .before .if2 .left))
 
 pub with-priority-spec : {M : Type 1} → statement M
-with-priority-spec = tie.close (tie.spec returns returns-2 mul-self way-write-given-self returns-3)
+with-priority-spec = tie.close (tie.spec returns returns-2 (λ c. search needs) (λ c. search needs) returns-3)

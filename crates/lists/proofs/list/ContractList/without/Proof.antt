@@ -18,29 +18,11 @@ Inv-loop pointer self left₀ n i₀ left i = (i ≤ n) × (n ≤ 8) × (n ≡ l
 abbrev μ-loop : tie.MeasureT-loop
 μ-loop pointer self left₀ n i₀ left i = n - i
 
-len-requires : tie.Need-len-requires Inv-loop μ-loop
-len-requires c κs = search needs
-
 loop-holds : tie.Need-loop-holds Inv-loop μ-loop
 loop-holds c =
     let eight : length (c .before .args .t1 .entries) ≡ 8 = search (needs, length-of-map) in
     let sized = c .len .ensures in
     (search needs, omega (arith, length-counted (c .before .args .t1) eight, sized), sized, refl)
-
-mul-with-other : tie.Need-mul-with-other Inv-loop μ-loop
-mul-with-other c = search needs
-
-element-copy-out-with-other : tie.Need-element-copy-out-with-other Inv-loop μ-loop
-element-copy-out-with-other c = search needs
-
-with-other-requires : tie.Need-with-other-requires Inv-loop μ-loop
-with-other-requires c κs = search needs
-
-add-i : tie.Need-add-i Inv-loop μ-loop
-add-i c = search needs
-
-loop-less : tie.Need-loop-less Inv-loop μ-loop
-loop-less c = search needs
 
 loop-again : tie.Need-loop-again Inv-loop μ-loop
 loop-again c =
@@ -63,12 +45,12 @@ without-spec =
     (tie.spec
     Inv-loop
     μ-loop
-    len-requires
+    (λ c κs. search needs)
     loop-holds
-    mul-with-other
-    element-copy-out-with-other
-    with-other-requires
-    add-i
-    loop-less
+    (λ c. search needs)
+    (λ c. search needs)
+    (λ c κs. search needs)
+    (λ c. search needs)
+    (λ c. search needs)
     loop-again
     returns)
