@@ -1,19 +1,19 @@
 -- Demand 3: what gate writes do to the bits of a record, over any list of accepted calls; and what a found write is.
-use Prim.Native.Nat.{ℕ, zero, suc, _*_, _/_, _%_, _≤_}
+use Prim.Native.Nat.{ℕ, zero, suc, _*_, _/_, _%_, _^_, _≤_, _<_}
 use mathlib.Core.List.{List, [], _∷_, _++_}
 use mathlib.Core.Bool.{Bool, true, false, _&&_, _||_, not, or-false, or-assoc, true≢false}
 use mathlib.Core.Path.{_≡_, refl, sym, ap, _∙_}
 use native.Mathlib.Omega.{arith}
 use lib.Dec.{eqb, ltb}
 use lib.ListN.{length, getD, take, drop, length-drop, length-replicate}
-use lib.Seq.{ext-getD, length-take-le}
+use lib.Seq.{ext-getD, length-take-le, take-all}
 use borrow.Author.Tests.{eqb-true, eq-eqb, ltb-false, le-ltb}
 use Rattle.bits.specs.Bits.{spread, cut, join, leading, zeros}
-use Rattle.bits.proofs.Cutting.{length-cut, length-spread, spread-cut}
+use Rattle.bits.proofs.Cutting.{length-cut, length-spread, spread-cut, cut-spread}
 use Rattle.rows.proofs.Boxes.{length-join, leading-zeros, all-leading}
 use Rattle.rows.specs.Row.{pick}
 use Rattle.records.specs.Answer.{Written, accepted, denied}
-use Rattle.gate.specs.Writes.{applied, only, writesOf, applying, finding, inSome, called, AllAccepted, writesIn, NoneFalls}
+use Rattle.gate.specs.Writes.{applied, only, writesOf, applying, finding, joining, inSome, called, AllAccepted, writesIn, NoneFalls}
 use Rattle.gate.proofs.Bytewise.{length-only}
 
 -- A bit of two strings joined is one where it is in either.
@@ -27,7 +27,7 @@ join-at (true ∷ xs) (y ∷ ys) (suc i) e = join-at xs ys i (omega arith)
 join-at (false ∷ xs) (y ∷ ys) (suc i) e = join-at xs ys i (omega arith)
 
 -- A bit that is only in the first is one there and zero in the second.
-pub only-at : (xs ys : List Bool) (i : ℕ) → length ys ≡ length xs → getD (only xs ys) i false ≡ getD xs i false && not (getD ys i false)
+only-at : (xs ys : List Bool) (i : ℕ) → length ys ≡ length xs → getD (only xs ys) i false ≡ getD xs i false && not (getD ys i false)
 only-at [] [] i e = refl
 only-at [] (y ∷ ys) i e = absurd (omega arith)
 only-at (x ∷ xs) [] i e = absurd (omega arith)
@@ -68,6 +68,13 @@ applied-append : (bs : List Bool) (ws vs : List (List Bool)) → applied bs (ws 
 applied-append bs [] vs = refl
 applied-append bs (w ∷ ws) vs = applied-append (join bs w) ws vs
 
+-- A record has 232 bits.
+record-bits : (bytes : List ℕ) → length bytes ≡ 29 → length (spread 8 bytes) ≡ 232
+record-bits bytes long = length-spread 8 bytes ∙ ap (λ (n : ℕ). 8 * n) long
+
+equal-bits : (a b : List ℕ) → length a ≡ 29 → length b ≡ 29 → length (spread 8 b) ≡ length (spread 8 a)
+equal-bits a b long long′ = record-bits b long′ ∙ sym (record-bits a long)
+
 -- What an accepted call leaves, as bits.
 pub accepted-call : (bytes c : List ℕ) → applying bytes c .answer .number ≡ 0
     → (length bytes ≡ 29) × (length c % 29 ≡ 0) × (length (applying bytes c .bytes) ≡ 29)
@@ -87,7 +94,7 @@ accepted-call bytes c = go (eqb (length bytes) 29) (eqb (length c % 29) 0) (ltb 
     go true false d e f h = absurd (omega arith)
     go true true true e f h = absurd (omega arith)
     go true true false e f h =
-        let long : length bits ≡ 8 * 29 = length-applied (spread 8 bytes) (writesOf (length c / 29) c) ∙ length-spread 8 bytes ∙ ap (λ (n : ℕ). 8 * n) (eqb-true _ _ e) in
+        let long : length bits ≡ 8 * 29 = length-applied (spread 8 bytes) (writesOf (length c / 29) c) ∙ record-bits bytes (eqb-true _ _ e) in
         (eqb-true _ _ e, eqb-true _ _ f, length-cut 8 8 29 bits, spread-cut 8 29 bits long)
 
 -- Any list of accepted calls does to the bits what all their writes do.
@@ -103,7 +110,7 @@ calls-apply bytes (c ∷ cs) (first, rest) =
 sized-writes : (n : ℕ) (c : List ℕ) → length c ≡ 29 * n → Sized 232 (writesOf n c)
 sized-writes zero c e = tt
 sized-writes (suc n) c e = (
-  length-spread 8 (take 29 c) ∙ ap (λ (n : ℕ). 8 * n) (length-take-le 29 c (omega arith)),
+  record-bits (take 29 c) (length-take-le 29 c (omega arith)),
   sized-writes n (drop 29 c) (length-drop 29 c ∙ omega arith),
 )
 
@@ -123,9 +130,8 @@ sized-calls bytes (c ∷ cs) (first, rest) =
 pub bit-after-calls : (bytes : List ℕ) (calls : List (List ℕ)) (i : ℕ) → length bytes ≡ 29 → AllAccepted bytes calls
     → getD (spread 8 (called bytes calls)) i false ≡ getD (spread 8 bytes) i false || inSome i (writesIn calls)
 bit-after-calls bytes calls i long all =
-    let room : length (spread 8 bytes) ≡ 232 = length-spread 8 bytes ∙ ap (λ (n : ℕ). 8 * n) long in
     ap (λ (l : List Bool). getD l i false) (calls-apply bytes calls all)
-    ∙ bit-after-writes (spread 8 bytes) (writesIn calls) i (rw room (sized-calls bytes calls all))
+    ∙ bit-after-writes (spread 8 bytes) (writesIn calls) i (rw (record-bits bytes long) (sized-calls bytes calls all))
 
 pub getD-zeros : (i n : ℕ) → getD (zeros n) i false ≡ false
 getD-zeros i zero = refl
@@ -137,9 +143,9 @@ pub calls-same : (bytes : List ℕ) (calls others : List (List ℕ)) → length 
     → ((i : ℕ) → inSome i (writesIn calls) ≡ inSome i (writesIn others))
     → spread 8 (called bytes calls) ≡ spread 8 (called bytes others)
 calls-same bytes calls others long all all′ same =
-    let room : length (spread 8 bytes) ≡ 232 = length-spread 8 bytes ∙ ap (λ (n : ℕ). 8 * n) long in
     calls-apply bytes calls all
-    ∙ same-ones (spread 8 bytes) (writesIn calls) (writesIn others) (rw room (sized-calls bytes calls all)) (rw room (sized-calls bytes others all′)) same
+    ∙ same-ones (spread 8 bytes) (writesIn calls) (writesIn others)
+    (rw (record-bits bytes long) (sized-calls bytes calls all)) (rw (record-bits bytes long) (sized-calls bytes others all′)) same
     ∙ sym (calls-apply bytes others all′)
 
 -- No bit need fall exactly if none is only in present.
@@ -166,52 +172,49 @@ leading-le [] = omega arith
 leading-le (true ∷ bs) = omega arith
 leading-le (false ∷ bs) = let rest = leading-le bs in omega arith
 
--- What finding answers for three records: with the first bit that would have to fall, or none.
-module _ (present wanted before : List ℕ) (long : length present ≡ 29) (long′ : length wanted ≡ 29) (long″ : length before ≡ 29) where
-  found-as : finding present wanted before
-      ≡ pick (ltb (leading (only (spread 8 present) (spread 8 wanted))) 232)
-      (denied 10 (leading (only (spread 8 present) (spread 8 wanted))) before)
-      (accepted (cut 8 8 29 (only (spread 8 wanted) (spread 8 present))))
-  unfolding finding
-  found-as = rw (eq-eqb _ _ long, eq-eqb _ _ long′, eq-eqb _ _ long″)
+-- A write is found only for three records and where no bit need fall.
+pub found-none-falls : (present wanted before : List ℕ) → finding present wanted before .answer .number ≡ 0
+    → (length present ≡ 29) × (length wanted ≡ 29) × (length before ≡ 29) × NoneFalls (spread 8 present) (spread 8 wanted)
+unfolding finding
+found-none-falls present wanted before =
+    go (eqb (length present) 29) (eqb (length wanted) 29) (eqb (length before) 29) (ltb (leading falls) 232) refl refl refl refl
+  where
+    falls : List Bool
+    falls = only (spread 8 present) (spread 8 wanted)
 
-  sized : (bytes : List ℕ) → length bytes ≡ 29 → length (spread 8 bytes) ≡ 232
-  sized bytes e = length-spread 8 bytes ∙ ap (λ (n : ℕ). 8 * n) e
+    found : Written
+    found = accepted (cut 8 8 29 (only (spread 8 wanted) (spread 8 present)))
 
-  equal : length (spread 8 wanted) ≡ length (spread 8 present)
-  equal = sized wanted long′ ∙ sym (sized present long)
+    go : (a b c t : Bool) → eqb (length present) 29 ≡ a → eqb (length wanted) 29 ≡ b → eqb (length before) 29 ≡ c → ltb (leading falls) 232 ≡ t
+        → pick (a && b && c) (pick t (denied 10 (leading falls) before) found) (denied 1 0 before) .answer .number ≡ 0
+        → (length present ≡ 29) × (length wanted ≡ 29) × (length before ≡ 29) × NoneFalls (spread 8 present) (spread 8 wanted)
+    go false b c t e f g k h = absurd (omega arith)
+    go true false c t e f g k h = absurd (omega arith)
+    go true true false t e f g k h = absurd (omega arith)
+    go true true true true e f g k h = absurd (omega arith)
+    go true true true false e f g k h =
+        let long : length present ≡ 29 = eqb-true _ _ e in
+        let long′ : length wanted ≡ 29 = eqb-true _ _ f in
+        let size = length-only (spread 8 present) (spread 8 wanted) in
+        let bits = record-bits present long in
+        let all : leading falls ≡ length falls = omega (arith, ltb-false (leading falls) 232 k, leading-le falls) in
+        (long, long′, eqb-true _ _ g, only-none (spread 8 present) (spread 8 wanted) (equal-bits present wanted long long′) (all-leading falls all ∙ ap zeros size))
 
-  -- A write is found only if no bit need fall.
-  pub found-none-falls : finding present wanted before .answer .number ≡ 0 → NoneFalls (spread 8 present) (spread 8 wanted)
-  found-none-falls h = go (ltb n 232) refl (rw found-as at h)
-    where
-      n : ℕ
-      n = leading (only (spread 8 present) (spread 8 wanted))
-
-      go : (t : Bool) → ltb n 232 ≡ t
-          → pick t (denied 10 n before) (accepted (cut 8 8 29 (only (spread 8 wanted) (spread 8 present)))) .answer .number ≡ 0
-          → NoneFalls (spread 8 present) (spread 8 wanted)
-      go true e h = absurd (omega arith)
-      go false e h =
-          let all : n ≡ length (only (spread 8 present) (spread 8 wanted)) =
-          omega (arith, ltb-false n 232 e, leading-le (only (spread 8 present) (spread 8 wanted)), length-only (spread 8 present) (spread 8 wanted), sized present long) in
-          only-none (spread 8 present) (spread 8 wanted) equal
-          (all-leading (only (spread 8 present) (spread 8 wanted)) all ∙ ap zeros (length-only (spread 8 present) (spread 8 wanted)))
-
-  -- And if none need, it is found, and is the missing bits.
-  pub none-falls-found : NoneFalls (spread 8 present) (spread 8 wanted)
-      → finding present wanted before ≡ accepted (cut 8 8 29 (only (spread 8 wanted) (spread 8 present)))
-  none-falls-found none =
-      let clear : leading (only (spread 8 present) (spread 8 wanted)) ≡ 232 =
-      ap leading (none-only (spread 8 present) (spread 8 wanted) equal none) ∙ leading-zeros (length (spread 8 present)) ∙ sized present long in
-      let last : 232 ≤ leading (only (spread 8 present) (spread 8 wanted)) = omega arith in
-      found-as
-      ∙ ap (λ (t : Bool). pick t (denied 10 (leading (only (spread 8 present) (spread 8 wanted))) before) (accepted (cut 8 8 29 (only (spread 8 wanted) (spread 8 present)))))
-      (le-ltb (leading (only (spread 8 present) (spread 8 wanted))) 232 last)
+-- And there it is found, and is the missing bits.
+pub none-falls-found : (present wanted before : List ℕ) → length present ≡ 29 → length wanted ≡ 29 → length before ≡ 29
+    → NoneFalls (spread 8 present) (spread 8 wanted)
+    → finding present wanted before ≡ accepted (cut 8 8 29 (only (spread 8 wanted) (spread 8 present)))
+unfolding finding
+none-falls-found present wanted before long long′ long″ none =
+    let falls : List Bool = only (spread 8 present) (spread 8 wanted) in
+    let zero = none-only (spread 8 present) (spread 8 wanted) (equal-bits present wanted long long′) none in
+    let clear : leading falls ≡ 232 = ap leading zero ∙ leading-zeros (length (spread 8 present)) ∙ record-bits present long in
+    let last : 232 ≤ leading falls = omega arith in
+    rw (eq-eqb _ _ long, eq-eqb _ _ long′, eq-eqb _ _ long″, le-ltb _ _ last)
 
 -- The missing bits raised in present give wanted.
-pub found-applied : (xs ys : List Bool) → length ys ≡ length xs → NoneFalls xs ys → join xs (only ys xs) ≡ ys
-found-applied xs ys e none =
+missing-applied : (xs ys : List Bool) → length ys ≡ length xs → NoneFalls xs ys → join xs (only ys xs) ≡ ys
+missing-applied xs ys e none =
     ext-getD false (join xs (only ys xs)) ys (length-join xs (only ys xs) ∙ sym e)
     (λ i h.
     join-at xs (only ys xs) i (length-only ys xs ∙ e)
@@ -223,10 +226,10 @@ found-applied xs ys e none =
     go false true f = refl
     go false false f = refl
 
--- The write from a to b joined with that from b to c is the write from a to c.
-pub found-joined : (a b c : List Bool) → length b ≡ length a → length c ≡ length a → NoneFalls a b → NoneFalls b c
+-- Those from a to b joined with those from b to c are those from a to c.
+missing-joined : (a b c : List Bool) → length b ≡ length a → length c ≡ length a → NoneFalls a b → NoneFalls b c
     → join (only b a) (only c b) ≡ only c a
-found-joined a b c e f none none′ =
+missing-joined a b c e f none none′ =
     ext-getD false (join (only b a) (only c b)) (only c a)
     (length-join (only b a) (only c b) ∙ length-only b a ∙ e ∙ sym (length-only c a ∙ f))
     (λ i h.
@@ -241,3 +244,46 @@ found-joined a b c e f none none′ =
     go true false z f g = absurd (true≢false (sym (f refl)))
     go false true z f g = rw (g refl)
     go false false z f g = refl
+
+-- A found write is a record, and its bits the missing ones.
+found-bits : (present wanted before : List ℕ) → finding present wanted before .answer .number ≡ 0
+    → (length (finding present wanted before .bytes) ≡ 29) × (spread 8 (finding present wanted before .bytes) ≡ only (spread 8 wanted) (spread 8 present))
+found-bits present wanted before h =
+    let (long, long′, long″, none) = found-none-falls present wanted before h in
+    let missing : List Bool = only (spread 8 wanted) (spread 8 present) in
+    let found = ap (λ (w : Written). w .bytes) (none-falls-found present wanted before long long′ long″ none) in
+    (ap length found ∙ length-cut 8 8 29 missing,
+    ap (spread 8) found ∙ spread-cut 8 29 missing (length-only (spread 8 wanted) (spread 8 present) ∙ record-bits wanted long′))
+
+-- A found write has a one exactly where wanted has and present has not.
+pub found-only-missing : (present wanted before : List ℕ) (i : ℕ) → finding present wanted before .answer .number ≡ 0
+    → getD (spread 8 (finding present wanted before .bytes)) i false ≡ getD (spread 8 wanted) i false && not (getD (spread 8 present) i false)
+found-only-missing present wanted before i h =
+    let (long, long′, long″, none) = found-none-falls present wanted before h in
+    ap (λ (bs : List Bool). getD bs i false) (found-bits present wanted before h .1)
+    ∙ only-at (spread 8 wanted) (spread 8 present) i (equal-bits wanted present long′ long)
+
+-- Applied to present, it gives wanted.
+pub finds-applied : (present wanted before : List ℕ) → ((i : ℕ) → getD wanted i 0 < 2 ^ 8) → finding present wanted before .answer .number ≡ 0
+    → applying present (finding present wanted before .bytes) ≡ accepted wanted
+unfolding applying
+finds-applied present wanted before small h =
+    let (long, long′, long″, none) = found-none-falls present wanted before h in
+    let (size, bits) = found-bits present wanted before h in
+    let all : take 29 (finding present wanted before .bytes) ≡ finding present wanted before .bytes = take-all 29 _ (omega arith) in
+    let back : cut 8 8 29 (spread 8 wanted) ≡ wanted = rw long′ at (cut-spread 8 wanted small) in
+    rw (eq-eqb _ _ long, size, all, bits, missing-applied (spread 8 present) (spread 8 wanted) (equal-bits present wanted long long′) none, back)
+
+-- The write found from a to b, joined with that from b to c, is the one found from a to c.
+pub finds-joined : (a b c x y z : List ℕ) → finding a b x .answer .number ≡ 0 → finding b c y .answer .number ≡ 0 → length z ≡ 29
+    → (finding a c z .answer .number ≡ 0) × (joining (finding a b x .bytes) (finding b c y .bytes) z ≡ finding a c z)
+unfolding joining
+finds-joined a b c x y z h k room =
+    let (first, second, rest, none) = found-none-falls a b x h in
+    let (second′, third, rest′, none′) = found-none-falls b c y k in
+    let (size, bits) = found-bits a b x h in
+    let (size′, bits′) = found-bits b c y k in
+    let found = none-falls-found a c z first third room (λ i e. none′ i (none i e)) in
+    (ap (λ (w : Written). w .answer .number) found,
+    rw (eq-eqb _ _ size, eq-eqb _ _ size′, eq-eqb _ _ room, bits, bits′,
+    missing-joined (spread 8 a) (spread 8 b) (spread 8 c) (equal-bits a b first second) (equal-bits a c first third) none none′, found))
