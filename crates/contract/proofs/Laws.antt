@@ -1,4 +1,4 @@
--- Contract: what was read, written again, is the same bytes; what was written, read again, is the same value.
+-- Contract: what was read, written onto any record, is the same bytes; what was written, read again, is the same value.
 use Prim.Native.Nat.{ℕ, _^_, _<_}
 use mathlib.Core.List.{List, _++_}
 use mathlib.Core.Bool.{Bool, true, false, _||_, So, So-prop, false≢true}
@@ -136,7 +136,7 @@ agrees-read kind bytes c there = go (eqb (length bytes) 29) (read (tableOf kind)
     go false o h = absurd (apart (refusal 1 0) c h)
 
 -- A contract that agrees is written by its table; no other is.
-pub write-known : (kind : ℕ) (c : Contract) (before : List ℕ) → known kind ≡ true → agrees kind c ≡ true
+write-known : (kind : ℕ) (c : Contract) (before : List ℕ) → known kind ≡ true → agrees kind c ≡ true
     → contractWritten kind c before ≡ writeRecord (tableOf kind) (numbersOf kind c) before
 unfolding writeRecord
 write-known kind c before there agree = rw (there, agree) (go (eqb (length before) 29))
@@ -156,7 +156,7 @@ not-disagreed c before after = go (write head 232 (headNumbers c)) refl
     go (done bs end) e h = let z : _≡_ {A = ℕ} 7 0 = ap (λ (w : Written). w .answer .number) h in omega arith
     go (refused n at i) e h = write-refused head 232 (headNumbers c) e (ap (λ (w : Written). w .answer .number) h)
 
-pub known-written : (kind : ℕ) (c : Contract) (before after : List ℕ) → contractWritten kind c before ≡ accepted after
+known-written : (kind : ℕ) (c : Contract) (before after : List ℕ) → contractWritten kind c before ≡ accepted after
     → (known kind ≡ true) × (agrees kind c ≡ true)
 known-written kind c before after = go (eqb (length before) 29) (known kind) (agrees kind c)
   where
@@ -170,15 +170,15 @@ known-written kind c before after = go (eqb (length before) 29) (known kind) (ag
     go true false a h = absurd (let z : _≡_ {A = ℕ} 3 0 = ap (λ (w : Written). w .answer .number) h in omega arith)
     go false t a h = absurd (let z : _≡_ {A = ℕ} 1 0 = ap (λ (w : Written). w .answer .number) h in omega arith)
 
-pub contract-read-write : (kind : ℕ) (bytes : List ℕ) (c : Contract) → ((i : ℕ) → getD bytes i 0 < 2 ^ 8)
+pub contract-read-write : (kind : ℕ) (bytes onto : List ℕ) (c : Contract) → ((i : ℕ) → getD bytes i 0 < 2 ^ 8) → length onto ≡ 29
     → contractRead kind bytes ≡ Read c
-    → contractWritten kind c bytes ≡ accepted bytes
-contract-read-write kind bytes c small h =
+    → contractWritten kind c onto ≡ accepted bytes
+contract-read-write kind bytes onto c small long h =
     let there = known-read kind bytes c h in
     let reading : reads kind bytes ≡ Read c = sym (read-known kind bytes there) ∙ h in
     let agree = agrees-read kind bytes c there reading in
-    write-known kind c bytes there agree
-    ∙ record-read-write (λ (a : Agreed kind). Read (a .0)) Refused (same kind) (λ r a. apart r (a .0)) (view kind there) bytes (c, agree) small reading
+    write-known kind c onto there agree
+    ∙ record-read-write (λ (a : Agreed kind). Read (a .0)) Refused (same kind) (λ r a. apart r (a .0)) (view kind there) bytes onto (c, agree) small long reading
 
 pub contract-write-read : (kind : ℕ) (before after : List ℕ) (c : Contract)
     → contractWritten kind c before ≡ accepted after

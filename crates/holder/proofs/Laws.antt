@@ -1,4 +1,4 @@
--- Holder: what was read, written again, is the same bytes; what was written, read again, is the same value.
+-- Holder: what was read, written onto as many bytes, is the same bytes; what was written, read again, is the same value.
 use Prim.Native.Nat.{ℕ, _*_, _^_, _<_}
 use mathlib.Core.List.{List}
 use mathlib.Core.Bool.{Bool, true, false}
@@ -25,19 +25,20 @@ read-sized : (bs : List Bool) {vals : List ℕ} {end : ℕ} → read holder bs �
 unfolding holder
 read-sized bs h = read-slots holder bs h
 
-pub holder-read-write : (bytes : List ℕ) (h : Holder) → ((i : ℕ) → getD bytes i 0 < 2 ^ 8)
+pub holder-read-write : (bytes onto : List ℕ) (h : Holder) → ((i : ℕ) → getD bytes i 0 < 2 ^ 8) → length onto ≡ length bytes
     → holderRead bytes ≡ readOf h
-    → holderWritten bytes h ≡ accepted bytes
+    → holderWritten onto h ≡ accepted bytes
 unfolding readArea writeArea
-holder-read-write bytes h small = go (areaLength (length bytes)) (read holder (spread 8 bytes)) refl
+holder-read-write bytes onto h small long e = rw long (go (areaLength (length bytes)) (read holder (spread 8 bytes)) refl e)
   where
     go : (b : Bool) (o : Outcome (List ℕ)) → read holder (spread 8 bytes) ≡ o
         → pick b (answered (λ vals. readOf (holderOf vals)) unread o) (unread (refusal 1 0)) ≡ readOf h
-        → pick b (written bytes (write holder (8 * length bytes) (numbersOf h))) (denied 1 0 bytes) ≡ accepted bytes
+        → pick b (written onto (write holder (8 * length bytes) (numbersOf h))) (denied 1 0 onto) ≡ accepted bytes
     go true (done vals end) r e =
         let value : holderOf vals ≡ h = ap (λ (x : HolderRead). x .holder) e in
         let slots : numbersOf h ≡ vals = ap numbersOf (sym value) ∙ forth vals (read-sized (spread 8 bytes) r) in
-        subst (λ (l : List ℕ). written bytes (write holder (8 * length bytes) l) ≡ accepted bytes) (sym slots) (slots-read-write holder (8 * length bytes) bytes refl small r)
+        subst (λ (l : List ℕ). written onto (write holder (8 * length bytes) l) ≡ accepted bytes) (sym slots)
+        (slots-read-write holder (8 * length bytes) bytes onto refl small long r)
     go true (refused n at i) r e = absurd (read-refused holder (spread 8 bytes) r (ap (λ (x : HolderRead). x .refusal .number) e))
     go false o r e = absurd (let one : _≡_ {A = ℕ} 1 0 = ap (λ (x : HolderRead). x .refusal .number) e in omega arith)
 

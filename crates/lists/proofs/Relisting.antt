@@ -52,25 +52,26 @@ module _ {L A : Type 0} (good : L → A) (bad : Refusal → A)
     (same : (a b : L) → good a ≡ good b → a ≡ b)
     (apart : (r : Refusal) (l : L) → bad r ≡ good l → r .number ≡ 0)
     (fault : List ℕ → ℕ) (outside : Bool) (rows : List Row) (numbersOf : L → List ℕ) (valueOf : List ℕ → L) where
-  -- A list that was read, written again, is the same bytes.
+  -- A list that was read, written onto any record, is the same bytes.
   pub listing-read-write : ((vals : List ℕ) → length vals ≡ slots rows → numbersOf (valueOf vals) ≡ vals)
-      → (bytes : List ℕ) (l : L) → ((i : ℕ) → getD bytes i 0 < 2 ^ 8)
+      → (bytes onto : List ℕ) (l : L) → ((i : ℕ) → getD bytes i 0 < 2 ^ 8) → length onto ≡ 29
       → readList (λ vals. good (valueOf vals)) bad fault outside rows bytes ≡ good l
-      → writeList fault outside rows (numbersOf l) bytes ≡ accepted bytes
+      → writeList fault outside rows (numbersOf l) onto ≡ accepted bytes
   unfolding readList writeList
-  listing-read-write forth bytes l small = go (eqb (length bytes) 29) refl outside (read rows (spread 8 bytes)) refl
+  listing-read-write forth bytes onto l small whole h = rw (eq-eqb _ _ whole) (go (eqb (length bytes) 29) refl outside (read rows (spread 8 bytes)) refl h)
     where
       kept : (vals : List ℕ) (end : ℕ) → length bytes ≡ 29 → read rows (spread 8 bytes) ≡ done vals end → (t : Bool) → eqb (fault vals) 0 ≡ t
           → answered (λ xs. good (valueOf xs)) bad (pick t (done vals end) (refused 6 (fault vals) 0)) ≡ good l
-          → written bytes (andThen (write rows 232 (numbersOf l)) (λ bs end. obeying (fault (numbersOf l)) bs end)) ≡ accepted bytes
+          → written onto (andThen (write rows 232 (numbersOf l)) (λ bs end. obeying (fault (numbersOf l)) bs end)) ≡ accepted bytes
       kept vals end long r true none h =
           let whose : numbersOf l ≡ vals = ap numbersOf (sym (same (valueOf vals) l h)) ∙ forth vals (read-slots rows (spread 8 bytes) r) in
-          rw (whose, obeying-none (fault vals) (write rows 232 vals) (eqb-true _ _ none)) (slots-read-write rows 232 bytes (rw long) small r)
+          rw (whose, obeying-none (fault vals) (write rows 232 vals) (eqb-true _ _ none))
+          (slots-read-write rows 232 bytes onto (rw long) small (whole ∙ sym long) r)
       kept vals end long r false some h = absurd (let six : _≡_ {A = ℕ} 6 0 = apart (refusal 6 (fault vals)) l h in omega arith)
 
       go : (b : Bool) → eqb (length bytes) 29 ≡ b → (out : Bool) → (o : Outcome (List ℕ)) → read rows (spread 8 bytes) ≡ o
           → pick b (pick out (bad (refusal 11 0)) (answered (λ vals. good (valueOf vals)) bad (andThen o (λ vals end. obeying (fault vals) vals end)))) (bad (refusal 1 0)) ≡ good l
-          → pick b (pick out (denied 11 0 bytes) (written bytes (andThen (write rows 232 (numbersOf l)) (λ bs end. obeying (fault (numbersOf l)) bs end)))) (denied 1 0 bytes) ≡ accepted bytes
+          → pick out (denied 11 0 onto) (written onto (andThen (write rows 232 (numbersOf l)) (λ bs end. obeying (fault (numbersOf l)) bs end))) ≡ accepted bytes
       go true w false (done vals end) r h = kept vals end (eqb-true _ _ w) r (eqb (fault vals) 0) refl h
       go true w false (refused n at i) r h = absurd (read-refused rows (spread 8 bytes) r (apart (refusal n at) l h))
       go true w true o r h = absurd (let eleven : _≡_ {A = ℕ} 11 0 = apart (refusal 11 0) l h in omega arith)

@@ -9,10 +9,8 @@ use lib.Dec.{eqb, leb}
 use lib.ListN.{length, getD, drop, length-map, length-drop, replicate}
 use lib.Seq.{length-take-le}
 use borrow.Author.Tests.{eq-eqb, ne-eqb, eqb-true, eqb-false, leb-true, not-true}
-use Rattle.rows.specs.Row.{Row, pick}
-use Rattle.rows.specs.Walk.{Outcome, done, refused, write}
-use Rattle.rows.proofs.RoundTrip.{write-refused}
-use Rattle.records.specs.Answer.{Written, refusal, accepted, denied, written, writeRecord}
+use Rattle.rows.specs.Row.{pick}
+use Rattle.records.specs.Answer.{refusal, accepted}
 use Rattle.records.specs.Order.{Attempt, got, stopped, needs, recordFrom}
 use Rattle.records.specs.declared.Refusal.{Refusal}
 use Rattle.lists.specs.List.{gotList, listRead}
@@ -23,10 +21,10 @@ use Rattle.lists.specs.declared.list.ContractList.{ContractList}
 use Rattle.lists.specs.declared.list.ListRead.{ListRead}
 use Rattle.lists.proofs.Entries.{appended-listing, length-without}
 use Rattle.lists.proofs.Kept.{Kept, list-kept, list-got, room-left, room-all}
-use Rattle.contract.specs.Contract.{contractRead, contractWritten, numbersOf, tableOf}
+use Rattle.contract.specs.Contract.{contractRead, contractWritten}
 use Rattle.contract.specs.declared.Contract.{Contract}
 use Rattle.contract.specs.declared.ContractRead.the-variants.{Read, Refused}
-use Rattle.contract.proofs.Laws.{contract-read-write, known-written, write-known}
+use Rattle.contract.proofs.Laws.{contract-read-write}
 use Rattle.loading.specs.Blocking.{some}
 use Rattle.loading.specs.Place.{free, place, afterwards}
 use Rattle.loading.specs.Loading.{Lent, lengths, lengthsOf, entryFits, limits, loaded, newEntry, placed, blocking, placing, finding, settled, loading}
@@ -59,27 +57,6 @@ of-ten true true true false e f g h i j all = absurd (true≢false (sym all))
 of-ten true true false d e f g h i j all = absurd (true≢false (sym all))
 of-ten true false c d e f g h i j all = absurd (true≢false (sym all))
 of-ten false b c d e f g h i j all = absurd (true≢false (sym all))
-
--- What a record becomes when it is written depends on nothing of it but its length.
-written-anywhere : (rows : List Row) (vals before before' after : List ℕ) → length before ≡ length before'
-    → writeRecord rows vals before ≡ accepted after → writeRecord rows vals before' ≡ accepted after
-unfolding writeRecord
-written-anywhere rows vals before before' after same = rw (← same) (go (eqb (length before) 29) (write rows 232 vals) refl)
-  where
-    go : (t : Bool) (o : Outcome (List Bool)) → write rows 232 vals ≡ o → pick t (written before o) (denied 1 0 before) ≡ accepted after
-        → pick t (written before' o) (denied 1 0 before') ≡ accepted after
-    go true (done bs end) e h = rw (← same) h
-    go true (refused m p i) e h = absurd (write-refused rows 232 vals e (ap (λ (w : Written). w .answer .number) h))
-    go false o e h = absurd (let one : _≡_ {A = ℕ} 1 0 = ap (λ (w : Written). w .answer .number) h in omega arith)
-
--- A contract that was read is written to any record as the bytes that it was read from.
-contract-anywhere : (kind : ℕ) (new before : List ℕ) (c : Contract) → ((i : ℕ) → getD new i 0 < 2 ^ 8) → contractRead kind new ≡ Read c
-    → length new ≡ length before → contractWritten kind c before ≡ accepted new
-contract-anywhere kind new before c small h same =
-    let at-home = contract-read-write kind new c small h in
-    let (there, agree) = known-written kind c new new at-home in
-    write-known kind c before there agree
-    ∙ written-anywhere (tableOf kind) (numbersOf kind c) new before new same (sym (write-known kind c new there agree) ∙ at-home)
 
 -- An entry that has the pointer leaves.
 leaves : (e : Entry) (es : List Entry) (p : ℕ) → List·Memᴰ e es → e .pointer ≡ p → length (without p es) < length es
@@ -222,8 +199,8 @@ module _ (o : Order) (list file : List ℕ) (lent : Lent) where
                     let most : p ≤ o .n = rw (← named) at (names .most) in
                     let files-long : length file ≡ 29 * o .n = card .file-long in
                     let inside : 29 ≤ length (drop (29 * (p - 1)) file) = simp length-drop (omega arith) in
-                    let long : length (lent .new) ≡ length (recordFrom file (p - 1)) = card .new-long ∙ sym (length-take-le 29 (drop (29 * (p - 1)) file) inside) in
-                    let files : contractWritten (o .kind) c (recordFrom file (p - 1)) ≡ accepted (lent .new) = contract-anywhere (o .kind) (lent .new) (recordFrom file (p - 1)) c small e long in
+                    let files : contractWritten (o .kind) c (recordFrom file (p - 1)) ≡ accepted (lent .new) =
+                    contract-read-write (o .kind) (lent .new) (recordFrom file (p - 1)) c small (length-take-le 29 (drop (29 * (p - 1)) file) inside) e in
                     rw (z, lists, files)
 
             pub loads : (c : Contract) (p : ℕ) → contractRead (o .kind) (lent .new) ≡ Read c → ((i : ℕ) → getD (lent .new) i 0 < 2 ^ 8)

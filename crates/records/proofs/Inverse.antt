@@ -37,14 +37,14 @@ pub from-all : (n : ℕ) (vals : List ℕ) → length vals ≡ n → from 0 n va
 from-all n vals h = named-all 0 n vals h
 
 module _ (rows : List Row) (room : ℕ) where
-  -- Numbers that were read, written again, are the same bytes.
-  pub slots-read-write : (bytes : List ℕ) → 8 * length bytes ≡ room → ((i : ℕ) → getD bytes i 0 < 2 ^ 8) → {vals : List ℕ} {end : ℕ}
-      → read rows (spread 8 bytes) ≡ done vals end
-      → written bytes (write rows room vals) ≡ accepted bytes
-  slots-read-write bytes whole small {vals} {end} h =
+  -- Numbers that were read, written onto as many bytes, are the same bytes.
+  pub slots-read-write : (bytes onto : List ℕ) → 8 * length bytes ≡ room → ((i : ℕ) → getD bytes i 0 < 2 ^ 8) → length onto ≡ length bytes
+      → {vals : List ℕ} {end : ℕ} → read rows (spread 8 bytes) ≡ done vals end
+      → written onto (write rows room vals) ≡ accepted bytes
+  slots-read-write bytes onto whole small long {vals} {end} h =
       let again : write rows room vals ≡ done (spread 8 bytes) end =
       rw (length-spread 8 bytes, whole) at (read-write rows (spread 8 bytes) h) in
-      rw (again, cut-spread 8 bytes small)
+      rw (again, long, cut-spread 8 bytes small)
 
   -- Numbers that were written, read again, are the same.
   pub slots-write-read : (before : List ℕ) → 8 * length before ≡ room → (vals after : List ℕ) → length vals ≡ slots rows
@@ -75,12 +75,12 @@ read-refused rows bs {n} {at} {i} h z = go (walk (length bs) (boxesAt bs) rows 0
     go (refused m p k) e f = let same : m ≡ n = cc in walk-refused (length bs) (boxesAt bs) rows 0 [] 0 e (same ∙ z)
 
 module _ {A : Type 0} {rows : List Row} {room : ℕ} {numbersOf : A → List ℕ} {valueOf : List ℕ → A} (view : View rows room numbersOf valueOf) where
-  -- What was read, written again, is the same bytes.
-  pub view-read-write : (bytes : List ℕ) → 8 * length bytes ≡ room → ((i : ℕ) → getD bytes i 0 < 2 ^ 8) → {vals : List ℕ} {end : ℕ}
-      → read rows (spread 8 bytes) ≡ done vals end
-      → written bytes (write rows room (numbersOf (valueOf vals))) ≡ accepted bytes
-  view-read-write bytes whole small h =
-      rw (view .forth (spread 8 bytes) (length-spread 8 bytes ∙ whole) h) (slots-read-write rows room bytes whole small h)
+  -- What was read, written onto as many bytes, is the same bytes.
+  pub view-read-write : (bytes onto : List ℕ) → 8 * length bytes ≡ room → ((i : ℕ) → getD bytes i 0 < 2 ^ 8) → length onto ≡ length bytes
+      → {vals : List ℕ} {end : ℕ} → read rows (spread 8 bytes) ≡ done vals end
+      → written onto (write rows room (numbersOf (valueOf vals))) ≡ accepted bytes
+  view-read-write bytes onto whole small long h =
+      rw (view .forth (spread 8 bytes) (length-spread 8 bytes ∙ whole) h) (slots-read-write rows room bytes onto whole small long h)
 
   -- What was written, read again, is the same value.
   pub view-write-read : (before : List ℕ) → 8 * length before ≡ room → (a : A) (after : List ℕ)
@@ -92,19 +92,19 @@ module _ {A B : Type 0} (good : A → B) (bad : Refusal → B)
     (same : (a b : A) → good a ≡ good b → a ≡ b)
     (apart : (r : Refusal) (a : A) → bad r ≡ good a → ⊥)
     {rows : List Row} {numbersOf : A → List ℕ} {valueOf : List ℕ → A} (view : View rows 232 numbersOf valueOf) where
-  -- A record that was read, written again, is the same bytes.
-  pub record-read-write : (bytes : List ℕ) (a : A) → ((i : ℕ) → getD bytes i 0 < 2 ^ 8)
+  -- A record that was read, written onto any record, is the same bytes.
+  pub record-read-write : (bytes onto : List ℕ) (a : A) → ((i : ℕ) → getD bytes i 0 < 2 ^ 8) → length onto ≡ 29
       → readRecord (λ vals. good (valueOf vals)) bad rows bytes ≡ good a
-      → writeRecord rows (numbersOf a) bytes ≡ accepted bytes
+      → writeRecord rows (numbersOf a) onto ≡ accepted bytes
   unfolding readRecord writeRecord
-  record-read-write bytes a small = go (eqb (length bytes) 29) refl (read rows (spread 8 bytes)) refl
+  record-read-write bytes onto a small whole h = rw (eq-eqb _ _ whole) (go (eqb (length bytes) 29) refl (read rows (spread 8 bytes)) refl h)
     where
       go : (b : Bool) → eqb (length bytes) 29 ≡ b → (o : Outcome (List ℕ)) → read rows (spread 8 bytes) ≡ o
           → pick b (answered (λ vals. good (valueOf vals)) bad o) (bad (refusal 1 0)) ≡ good a
-          → pick b (written bytes (write rows 232 (numbersOf a))) (denied 1 0 bytes) ≡ accepted bytes
+          → written onto (write rows 232 (numbersOf a)) ≡ accepted bytes
       go true l (done vals end) r h =
           let long : length bytes ≡ 29 = eqb-true (length bytes) 29 l in
-          rw (same (valueOf vals) a h) at (view-read-write view bytes (rw long) small r)
+          rw (same (valueOf vals) a h) at (view-read-write view bytes onto (rw long) small (whole ∙ sym long) r)
       go true l (refused n at i) r h = absurd (apart (refusal n at) a h)
       go false l o r h = absurd (apart (refusal 1 0) a h)
 

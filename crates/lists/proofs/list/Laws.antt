@@ -1,4 +1,4 @@
--- The contract list: what was read, written again, is the same bytes; what was written, read again, is the same value.
+-- The contract list: what was read, written onto any record, is the same bytes; what was written, read again, is the same value.
 use Prim.Native.Nat.{ℕ, _^_, _<_}
 use mathlib.Core.List.{List, []}
 use mathlib.Core.Path.{_≡_, refl, ap}
@@ -20,13 +20,13 @@ list-of-numbers l eight =
 same : (a b : ContractList) → gotList a ≡ gotList b → a ≡ b
 same a b h = ap (λ (r : ListRead). r .list) h
 
-pub list-read-write : (n : ℕ) (bytes : List ℕ) (l : ContractList) → ((i : ℕ) → getD bytes i 0 < 2 ^ 8)
+pub list-read-write : (n : ℕ) (bytes onto : List ℕ) (l : ContractList) → ((i : ℕ) → getD bytes i 0 < 2 ^ 8) → length onto ≡ 29
     → listRead n bytes ≡ gotList l
-    → listWritten n l bytes ≡ accepted bytes
+    → listWritten n l onto ≡ accepted bytes
 unfolding contractList
-list-read-write n bytes l small h =
+list-read-write n bytes onto l small long h =
     listing-read-write gotList noList same (λ r l e. ap (λ (x : ListRead). x .refusal .number) e) (listFault n) (outside n) (contractList n) numbersOf listOf
-    (from-all 49) bytes l small h
+    (from-all 49) bytes onto l small long h
 
 pub list-write-read : (n : ℕ) (before after : List ℕ) (l : ContractList) → length (l .entries) ≡ 8
     → listWritten n l before ≡ accepted after

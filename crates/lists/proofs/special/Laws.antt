@@ -1,4 +1,4 @@
--- The special event list: what was read, written again, is the same bytes; what was written, read again, is the same value.
+-- The special event list: what was read, written onto any record, is the same bytes; what was written, read again, is the same value.
 use Prim.Native.Nat.{ℕ, _^_, _<_}
 use mathlib.Core.List.{List, []}
 use mathlib.Core.Path.{_≡_, refl, ap}
@@ -21,13 +21,13 @@ special-of-numbers l four =
 same : (a b : SpecialList) → gotSpecial a ≡ gotSpecial b → a ≡ b
 same a b h = ap (λ (r : SpecialRead). r .list) h
 
-pub special-read-write : (s : ℕ) (bytes : List ℕ) (l : SpecialList) → ((i : ℕ) → getD bytes i 0 < 2 ^ 8)
+pub special-read-write : (s : ℕ) (bytes onto : List ℕ) (l : SpecialList) → ((i : ℕ) → getD bytes i 0 < 2 ^ 8) → length onto ≡ 29
     → specialRead s bytes ≡ gotSpecial l
-    → specialWritten s l bytes ≡ accepted bytes
+    → specialWritten s l onto ≡ accepted bytes
 unfolding specialList
-special-read-write s bytes l small h =
+special-read-write s bytes onto l small long h =
     listing-read-write gotSpecial noSpecial same (λ r l e. ap (λ (x : SpecialRead). x .refusal .number) e) (specialFault s) (ltb 4 s) specialList numbersOf specialOf
-    (from-all 21) bytes l small h
+    (from-all 21) bytes onto l small long h
 
 pub special-write-read : (s : ℕ) (before after : List ℕ) (l : SpecialList) → length (l .entries) ≡ 4
     → specialWritten s l before ≡ accepted after

@@ -1,9 +1,9 @@
--- Environment: what was read, written again, is the same bytes; what was written, read again, is the same value.
+-- Environment: what was read, written onto any record, is the same bytes; what was written, read again, is the same value.
 use Prim.Native.Nat.{ℕ, _^_, _<_}
 use mathlib.Core.List.{List}
 use mathlib.Core.Path.{_≡_, refl}
 use native.Mathlib.Omega.{arith}
-use lib.ListN.{getD}
+use lib.ListN.{length, getD}
 use Rattle.rows.specs.table.Environment.{environment}
 use Rattle.rows.proofs.RoundTrip.{read-slots}
 use Rattle.records.specs.Answer.{accepted}
@@ -23,10 +23,10 @@ same a b h = cc
 apart : (r : Refusal) (e : Environment) → Refused r ≡ Read e → ⊥
 apart r e h = let z : _≡_ {A = ℕ} 0 1 = cc in omega arith
 
-pub environment-read-write : (bytes : List ℕ) (e : Environment) → ((i : ℕ) → getD bytes i 0 < 2 ^ 8)
+pub environment-read-write : (bytes onto : List ℕ) (e : Environment) → ((i : ℕ) → getD bytes i 0 < 2 ^ 8) → length onto ≡ 29
     → environmentRead bytes ≡ Read e
-    → environmentWritten bytes e ≡ accepted bytes
-environment-read-write bytes e small h = record-read-write Read Refused same apart view bytes e small h
+    → environmentWritten onto e ≡ accepted bytes
+environment-read-write bytes onto e small long h = record-read-write Read Refused same apart view bytes onto e small long h
 
 pub environment-write-read : (before after : List ℕ) (e : Environment)
     → environmentWritten before e ≡ accepted after

@@ -1,4 +1,4 @@
--- Event: what was read, written again, is the same bytes; what was written, read again, is the same value.
+-- Event: what was read, written onto any record, is the same bytes; what was written, read again, is the same value.
 use Prim.Native.Nat.{ℕ, _^_, _<_}
 use mathlib.Core.List.{List}
 use mathlib.Core.Bool.{Bool}
@@ -35,10 +35,10 @@ same a b h = cc
 apart : (r : Refusal) (e : Event) → Refused r ≡ Read e → ⊥
 apart r e h = let z : _≡_ {A = ℕ} 0 1 = cc in omega arith
 
-pub event-read-write : (bytes : List ℕ) (e : Event) → ((i : ℕ) → getD bytes i 0 < 2 ^ 8)
+pub event-read-write : (bytes onto : List ℕ) (e : Event) → ((i : ℕ) → getD bytes i 0 < 2 ^ 8) → length onto ≡ 29
     → eventRead bytes ≡ Read e
-    → eventWritten bytes e ≡ accepted bytes
-event-read-write bytes e small h = record-read-write Read Refused same apart view bytes e small h
+    → eventWritten onto e ≡ accepted bytes
+event-read-write bytes onto e small long h = record-read-write Read Refused same apart view bytes onto e small long h
 
 pub event-write-read : (before after : List ℕ) (e : Event)
     → eventWritten before e ≡ accepted after
