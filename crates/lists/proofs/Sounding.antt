@@ -1,28 +1,27 @@
--- Lists whose entries are sound: writing one is refused with 2 or not at all.
-use Prim.Native.Nat.{ℕ, zero, suc, _+_, _/_, _^_, _≤_, _<_}
-use mathlib.Core.List.{List, [], _∷_, _++_, map}
+-- Lists whose entries are sound: writing one is refused exactly where it takes more bits than a record has, and then with 2.
+use Prim.Native.Nat.{ℕ, zero, suc, _+_, _-_, _/_, _^_, _≤_, _<_}
+use mathlib.Core.List.{List, [], _∷_, _++_, map, append-assoc}
 use mathlib.Core.Bool.{Bool, true, false}
 use mathlib.Core.Path.{_≡_, refl, sym, ap, subst, _∙_}
 use native.Mathlib.Omega.{arith}
-use lib.Dec.{eqb, ltb}
+use lib.Dec.{eqb, ltb, leb}
 use borrow.Author.Tests.{lt-ltb, le-ltb, ltb-true, ltb-false, eq-eqb, ne-eqb}
-use lib.ListN.{length, getD, take, length-map, List·getD-map, List·getD-eq-default}
-use lib.Seq.{getD-take}
-use mathlib.Core.Logic.{_⊎_, inl, inr}
+use lib.ListN.{length, getD, take, drop, drop-of-length-le, length-map, List·getD-map, List·getD-eq-default}
+use lib.Seq.{drop-cons, getD-take}
 use Rattle.rows.specs.Row.{pick, broken}
 use Rattle.rows.specs.Walk.{Outcome, done, refused, andThen, write, there, exceeds}
 use Rattle.rows.specs.declared.When.the-variants.{Bit, Above}
 use Rattle.rows.specs.declared.Rule.the-variants.{Tariff}
 use Rattle.rows.specs.table.BestContracts.{contractList}
-use Rattle.rows.proofs.Sound.{Sound, read-sound, sound-written}
+use Rattle.rows.proofs.Sound.{Sound, fieldsOn, verdict, read-sound, sound-written}
 use Rattle.rows.proofs.RoundTrip.{read-slots}
-use Rattle.bits.specs.Bits.{spread}
+use Rattle.bits.specs.Bits.{odd, spread}
 use Rattle.records.proofs.Inverse.{from-all}
 use Rattle.lists.specs.List.{entryOf, entryAt, numbersOf, gotList, listFault, listRead, listWritten}
 use Rattle.lists.specs.Listing.{column, obeying, writeList}
 use Rattle.lists.specs.Rules.{faultAfter}
-use Rattle.records.specs.Answer.{named, written}
-use Rattle.lists.specs.Entries.{counted, listing, without}
+use Rattle.records.specs.Answer.{refusal, named, written}
+use Rattle.lists.specs.Entries.{counted, listing, without, entriesFields, listFields, listBits, pastRecord}
 use Rattle.lists.specs.declared.list.Entry.{Entry}
 use Rattle.lists.specs.declared.list.ContractList.{ContractList}
 use Rattle.lists.proofs.Entries.{length-counted, counted-listing}
@@ -141,6 +140,45 @@ full-map : (es : List Entry) → AllGood es → Full 3 (map (λ (e : Entry). e .
 full-map [] g = tt
 full-map (e ∷ es) g = (g .0 .full, full-map es (g .1))
 
+-- The fields of an entry, counted or not, as the table has them, and others behind.
+abbrev ahead : Bool → ℕ → List ℕ → List ℕ
+ahead there bitmap rest =
+    pick there (3 ∷ []) []
+    ++ (pick (odd (bitmap / 1)) (24 ∷ []) [] ++ (pick (odd (bitmap / 2)) (16 ∷ []) [] ++ (pick (odd (bitmap / 4)) (5 ∷ []) [] ++ rest)))
+
+-- Those of m entries from k on.
+abbrev fieldsFrom : List Entry → ℕ → ℕ → List ℕ
+fieldsFrom es k zero = []
+fieldsFrom es k (suc m) = ahead (ltb k (length es)) (getD es k (entryOf [] 0) .bitmap) (fieldsFrom es (suc k) m)
+
+own-fields : (es : List Entry) (k m : ℕ) → AllGood es → length es ≤ k + m → fieldsFrom es k m ≡ entriesFields (drop k es)
+own-fields es k zero good h = let past : length es ≤ k = omega arith in rw (drop-of-length-le es past)
+own-fields es k (suc m) good h = rw (own-fields es (suc k) m good (omega arith)) (go (ltb k (length es)) refl)
+  where
+    none : Entry
+    none = entryOf [] 0
+
+    bitmap : ℕ
+    bitmap = getD es k none .bitmap
+
+    go : (t : Bool) → ltb k (length es) ≡ t → ahead t bitmap (entriesFields (drop (suc k) es)) ≡ entriesFields (drop k es)
+    go true e =
+        let here : k < length es = ltb-true _ _ e in
+        let full = good-at es k none good here .full in
+        let all : bitmap / 1 ≡ bitmap = omega arith in
+        let last : bitmap / 4 ≡ 1 = omega arith in
+        rw (drop-cons es k none here, all, full, last, append-assoc)
+    go false e =
+        let past : length es ≤ k = ltb-false _ _ e in
+        let past′ : length es ≤ suc k = omega arith in
+        let zero : bitmap ≡ 0 = ap (λ (x : Entry). x .bitmap) (List·getD-eq-default es none past) in
+        rw (zero, drop-of-length-le es past, drop-of-length-le es past′)
+
+-- The fields of a list of good entries are those of its table.
+table-fields : (n : ℕ) (es : List Entry) → AllGood es → length es ≤ 8 → fieldsOn (contractList n) [] (numbersOf (listing es)) ≡ listFields es
+unfolding contractList
+table-fields n es good few = ap (λ (ws : List ℕ). 4 ∷ ws) (own-fields es 0 8 good (omega arith))
+
 module _ (n : ℕ) (es : List Entry) (good : AllGood es) (apart : Apart n [] (map (λ (e : Entry). e .pointer) es)) (few : length es ≤ n) (most : n ≤ 8) where
   -- A list of good entries with pointers of their own keeps the rule,
   keeps-rule : listFault n (numbersOf (listing es)) ≡ 0
@@ -169,17 +207,18 @@ module _ (n : ℕ) (es : List Entry) (good : AllGood es) (apart : Apart n [] (ma
       each : (k : ℕ) → k < 8 → EntrySound (length es) k (entryAt (listing es) k)
       each k h = let same : 0 + k ≡ k = omega arith in rw (named-get (entryOf [] 0) 0 8 k es h, same) (at k (ltb k (length es)) refl)
 
-  -- and so is refused with 2 or not at all.
-  pub only-two : (before : List ℕ) → length before ≡ 29 → 1 ≤ n → (listWritten n (listing es) before .answer .number ≡ 0) ⊎ (listWritten n (listing es) before .answer .number ≡ 2)
+  -- and so is written where its bits are within the record, and else refused with 2, at the first field that ends past it.
+  pub written-or-two : (before : List ℕ) → length before ≡ 29 → 1 ≤ n
+      → listWritten n (listing es) before .answer ≡ pick (leb (listBits es) 232) (refusal 0 0) (refusal 2 (pastRecord es))
   unfolding writeList
-  only-two before long low =
-      rw (eq-eqb _ _ long, le-ltb _ _ low, le-ltb _ _ most) (go (write (contractList n) 232 (numbersOf (listing es))) refl)
+  written-or-two before long low =
+      let sound = sound-written refusal (contractList n) 232 (numbersOf (listing es)) is-sound in
+      rw (eq-eqb _ _ long, le-ltb _ _ low, le-ltb _ _ most, keeps-rule)
+      (go (write (contractList n) 232 (numbersOf (listing es))) ∙ rw (table-fields n es good (omega arith)) at sound)
     where
-      go : (o : Outcome (List Bool)) → write (contractList n) 232 (numbersOf (listing es)) ≡ o
-          → (written before (andThen o (λ bs end. obeying (listFault n (numbersOf (listing es))) bs end)) .answer .number ≡ 0)
-          ⊎ (written before (andThen o (λ bs end. obeying (listFault n (numbersOf (listing es))) bs end)) .answer .number ≡ 2)
-      go (done bs end) e = inl (rw (eq-eqb _ _ keeps-rule))
-      go (refused m p j) e = inr (sound-written (contractList n) 232 (numbersOf (listing es)) is-sound e)
+      go : (o : Outcome (List Bool)) → written before (andThen o (λ bs end. obeying 0 bs end)) .answer ≡ verdict refusal o
+      go (done bs end) = refl
+      go (refused m p j) = refl
 
 -- An entry made of numbers in their limits is good, with a network or without.
 pub made-good : (has : Bool) (network key kind priority pointer : ℕ) → pick has (ltb network (2 ^ 24)) (eqb network 0) ≡ true

@@ -1,9 +1,11 @@
 -- What operations do to a contract list: they speak of its counted entries, in order.
 use Prim.Native.Nat.{ℕ, _+_, _-_, _*_}
-use mathlib.Core.List.{List, [], _∷_}
+use mathlib.Core.List.{List, [], _∷_, _++_}
 use lib.Dec.{eqb, ltb}
 use lib.ListN.{length, set, take}
+use Rattle.bits.specs.Bits.{odd}
 use Rattle.rows.specs.Row.{pick}
+use Rattle.rows.specs.Walk.{total, firstPast}
 use Rattle.rows.specs.Change.{placeOf}
 use Rattle.rows.specs.table.BestContracts.{contractList}
 use Rattle.records.specs.Answer.{named}
@@ -59,3 +61,23 @@ without pointer (e ∷ es) = pick (eqb (e .pointer) pointer) (without pointer es
 abbrev pub appended : Entry → ContractList → ContractList
 appended e l =
     pick (ltb (l .count) 8) (record { count = l .count + 1; entries = set (l .entries) (l .count) e }) l
+
+-- The widths of an entry's fields: bitmap, network where the bitmap's element [0] says so, tariff (4, 8 and 4 bits), pointer.
+abbrev pub entryFields : Entry → List ℕ
+entryFields e = 3 ∷ (pick (odd (e .bitmap)) (24 ∷ []) [] ++ (16 ∷ 5 ∷ []))
+
+abbrev pub entriesFields : List Entry → List ℕ
+entriesFields [] = []
+entriesFields (e ∷ es) = entryFields e ++ entriesFields es
+
+-- The widths of the fields of a list of some entries, in card order: the count, then entry by entry.
+abbrev pub listFields : List Entry → List ℕ
+listFields es = 4 ∷ entriesFields es
+
+-- How many bits it takes.
+abbrev pub listBits : List Entry → ℕ
+listBits es = total (listFields es)
+
+-- Where it takes more than a record's 232, the place of the first field that ends past them.
+abbrev pub pastRecord : List Entry → ℕ
+pastRecord es = firstPast 232 (listFields es) 0

@@ -4,7 +4,7 @@ use Prim.Native.Nat.{ℕ, _+_, _-_, _*_, _/_, _≤_, _<_}
 use mathlib.Core.Bool.{Bool, true, false, not, _&&_, _||_, true≢false}
 use mathlib.Core.List.{List, [], _∷_, _++_, map, List·Memᴰ, List·Memᴰ·head, List·Memᴰ·tail, map-append, Memᴰ·append-left, append-assoc}
 use mathlib.Core.Path.{_≡_, refl, sym, ap, _∙_}
-use mathlib.Core.Logic.{_⊎_, inl, inr, ⊎-elim}
+use mathlib.Core.Logic.{inl, inr, ⊎-elim}
 use native.Mathlib.Omega.{arith}
 use lib.Dec.{eqb, ltb, leb}
 use lib.ListN.{length, take, drop, length-append, length-drop, take-append-drop}
@@ -17,11 +17,11 @@ use Rattle.records.specs.declared.Refusal.{Refusal}
 use Rattle.rows.specs.table.BestContracts.{contractList}
 use Rattle.lists.specs.List.{numbersOf, gotList, outside, listFault, listRead, listWritten}
 use Rattle.lists.specs.Rules.{among}
-use Rattle.lists.specs.Entries.{counted, listing, attempted, without}
+use Rattle.lists.specs.Entries.{counted, listing, attempted, without, listBits, pastRecord}
 use Rattle.lists.specs.declared.list.Entry.{Entry}
 use Rattle.lists.specs.declared.list.ContractList.{ContractList}
 use Rattle.lists.proofs.Kept.{Apart, list-kept, list-got, one-each, apart-afterwards}
-use Rattle.lists.proofs.Sounding.{Good, made-good, good-without, good-append, read-good, only-two}
+use Rattle.lists.proofs.Sounding.{Good, made-good, good-without, good-append, read-good, written-or-two}
 use Rattle.lists.proofs.Numbers.{list-write-number}
 use Rattle.lists.proofs.list.Laws.{list-write-read}
 use Rattle.contract.specs.Contract.{contractRead}
@@ -29,7 +29,7 @@ use Rattle.contract.specs.declared.Contract.{Contract}
 use Rattle.contract.specs.declared.ContractRead.{ContractRead}
 use Rattle.contract.specs.declared.ContractRead.the-variants.{Read, Refused}
 use Rattle.loading.specs.Place.{erasable, place, afterwards}
-use Rattle.loading.specs.Loading.{Lent, Found, found, Outcome, contractGot, lengths, lengthsOf, entryFits, networkFits, limits, loaded, newEntry, placed, blocking, placing, finding, settled, loading}
+use Rattle.loading.specs.Loading.{Lent, Found, found, Outcome, contractGot, lengths, lengthsOf, entryFits, networkFits, limits, loaded, newEntry, placed, bothOrNeither, blocking, placing, finding, settled, loading}
 use Rattle.loading.specs.declared.Order.{Order}
 use Rattle.loading.proofs.Placing.{Named, placed-free-or-erasable}
 use Rattle.loading.proofs.Told.{apart, Never, Unused, next-never, needs-never, list-never, blocking-never, contract-never}
@@ -134,6 +134,10 @@ pub record AllRead (o : Order) (list file : List ℕ) (lent : Lent) : Type 0 whe
 abbrev pub namedBy : {o : Order} {list file : List ℕ} {lent : Lent} → AllRead o list file lent → ℕ
 namedBy {o} a = place (a .blocked) (o .n) (o .c) (o .counter) (counted (a .l))
 
+-- The entries of the list afterwards.
+abbrev pub entriesAfter : {o : Order} {list file : List ℕ} {lent : Lent} → AllRead o list file lent → List Entry
+entriesAfter {o} a = afterwards (newEntry o (namedBy a)) (counted (a .l))
+
 attempted-got : (n : ℕ) (list : List ℕ) (l : ContractList) → attempted (listRead n list) ≡ got l → listRead n list ≡ gotList l
 attempted-got n list l = go (eqb (listRead n list .refusal .number) 0) refl
   where
@@ -192,8 +196,7 @@ new-good o p fits few =
 
 -- The list afterwards is written, or it does not fit.
 list-or-two : {o : Order} {list file : List ℕ} {lent : Lent} (a : AllRead o list file lent) → (namedBy a ≡ 0 → ⊥)
-    → (listWritten (o .n) (listing (afterwards (newEntry o (namedBy a)) (counted (a .l)))) list .answer .number ≡ 0)
-    ⊎ (listWritten (o .n) (listing (afterwards (newEntry o (namedBy a)) (counted (a .l)))) list .answer .number ≡ 2)
+    → listWritten (o .n) (listing (entriesAfter a)) list .answer ≡ pick (leb (listBits (entriesAfter a)) 232) (refusal 0 0) (refusal 2 (pastRecord (entriesAfter a)))
 list-or-two {o} {list} a some =
     let p : ℕ = namedBy a in
     let es : List Entry = counted (a .l) in
@@ -207,17 +210,13 @@ list-or-two {o} {list} a some =
     let good = good-append (without p es) (newEntry o p) (good-without p es (read-good (o .n) list (a .l) (a .reads))) (new-good o p (a .card .entry-fits) (omega arith)) in
     let apart : Apart (o .n) [] (map (λ (e : Entry). e .pointer) (afterwards (newEntry o p) es)) =
     rw (map-append (λ (e : Entry). e .pointer) (without p es) (newEntry o p ∷ [])) (apart-afterwards (o .n) p es low most (kept .apart)) in
-    only-two (o .n) (afterwards (newEntry o p) es) good apart few eight list (a .card .list-long) (kept .room .0)
+    written-or-two (o .n) (afterwards (newEntry o p) es) good apart few eight list (a .card .list-long) (kept .room .0)
 
--- The answer has the number of the list's writing.
-answers : (list file : List ℕ) (w : Written) (x : Outcome) → (w .answer .number ≡ 0) ⊎ (w .answer .number ≡ 2) → x .answer .refusal .number ≡ 0
-    → (pick (eqb (w .answer .number) 0) x (loaded (w .answer) 0 list file) .answer .refusal .number ≡ 0)
-    ⊎ (pick (eqb (w .answer .number) 0) x (loaded (w .answer) 0 list file) .answer .refusal .number ≡ 2)
-answers list file w x h fine = go (eqb (w .answer .number) 0)
-  where
-    go : (t : Bool) → (pick t x (loaded (w .answer) 0 list file) .answer .refusal .number ≡ 0) ⊎ (pick t x (loaded (w .answer) 0 list file) .answer .refusal .number ≡ 2)
-    go true = inl fine
-    go false = h
+-- And loading answers accordingly.
+answers : (list file : List ℕ) (p at : ℕ) (w : Written) (later : List ℕ) (fits : Bool) → w .answer ≡ pick fits (refusal 0 0) (refusal 2 at)
+    → bothOrNeither list file p w later .answer ≡ pick fits (record { refusal = refusal 0 0; pointer = p }) (record { refusal = refusal 2 at; pointer = 0 })
+answers list file p at w later true e = rw e
+answers list file p at w later false e = rw e
 
 -- Loading that was accepted: the pointer is the one that the rule names on what was read; the contract list is written with the
 -- old entries in order, without any of that pointer, then the new one; the contract file has the new record at its place.
@@ -372,8 +371,14 @@ module _ (o : Order) (list file : List ℕ) (lent : Lent) where
   unfolding loading
   none-nine a none = rw (read-found a, eq-eqb _ _ none)
 
-  -- Where all reads and the rule names a pointer, it is accepted, or the list does not fit and it is 2: the list afterwards can
-  -- be refused for nothing else.
-  pub loads-or-two : (a : AllRead o list file lent) → (namedBy a ≡ 0 → ⊥) → (out .answer .refusal .number ≡ 0) ⊎ (out .answer .refusal .number ≡ 2)
+  -- Where all reads and the rule names a pointer, it is accepted exactly if the list afterwards takes at most a record's 232 bits;
+  -- else it is 2, at the first field of that list that ends past them.
+  pub loads-or-two : (a : AllRead o list file lent) → (namedBy a ≡ 0 → ⊥)
+      → out .answer
+      ≡ pick (leb (listBits (entriesAfter a)) 232)
+      (record { refusal = refusal 0 0; pointer = namedBy a })
+      (record { refusal = refusal 2 (pastRecord (entriesAfter a)); pointer = 0 })
   unfolding loading
-  loads-or-two a some = rw (read-found a, ne-eqb _ _ some) (answers list file (listWritten (o .n) (listing (afterwards (newEntry o (namedBy a)) (counted (a .l)))) list) (loaded (refusal 0 0) (namedBy a) ((listWritten (o .n) (listing (afterwards (newEntry o (namedBy a)) (counted (a .l)))) list) .bytes) (placed (namedBy a) (lent .new) file)) (list-or-two a some) refl)
+  loads-or-two a some =
+      rw (read-found a, ne-eqb _ _ some)
+      (answers list file (namedBy a) (pastRecord (entriesAfter a)) _ _ (leb (listBits (entriesAfter a)) 232) (list-or-two a some))

@@ -1,15 +1,16 @@
--- Numbers that fit their boxes and break no rule: their writing is refused with 2 or not at all.
-use Prim.Native.Nat.{ℕ, suc, _+_, _-_}
-use mathlib.Core.List.{List, [], _∷_, _++_, append-assoc}
+-- Numbers that fit their boxes and break no rule: their writing is refused exactly where their fields end past the room.
+use Prim.Native.Nat.{ℕ, suc, _+_, _-_, _≤_, _<_}
+use mathlib.Core.List.{List, [], _∷_, _++_, map, append-assoc}
 use mathlib.Core.Bool.{Bool, true, false}
-use mathlib.Core.Path.{_≡_, refl, sym, _∙_}
+use mathlib.Core.Path.{_≡_, refl, sym, ap, _∙_}
 use native.Mathlib.Omega.{arith}
-use lib.Dec.{eqb, ltb}
+use lib.Dec.{eqb, ltb, leb}
+use borrow.Author.Tests.{ltb-true, ltb-false, le-leb, lt-leb}
 use lib.ListN.{length, take, drop, take-append-drop}
-use Rattle.rows.specs.Row.{Row, pick, broken}
-use Rattle.rows.specs.Walk.{Outcome, done, refused, andThen, total, boxesOf, exceeds, fault, walk, slotsOf, read, write, frame, laidOn}
+use Rattle.rows.specs.Row.{Row, pick, told, holds, broken}
+use Rattle.rows.specs.Walk.{Outcome, done, refused, andThen, total, boxesOf, exceeds, fault, walk, slotsOf, read, write, frame, laidOn, firstPast}
 use Rattle.bits.specs.Bits.{zeros}
-use Rattle.rows.proofs.Walked.{never, walk-row, slots-row, Held, walk-slots}
+use Rattle.rows.proofs.Walked.{walk-row, slots-row, Held, walk-slots}
 use Rattle.rows.proofs.RoundTrip.{Reading, reading}
 use Rattle.rows.proofs.Changing.{passed}
 
@@ -21,25 +22,58 @@ Sound (r ∷ rs) seen vals =
     × (broken (r .rule) (take (length (r .boxes)) vals) ≡ 0)
     × Sound rs (seen ++ take (length (r .boxes)) vals) (drop (length (r .boxes)) vals)
 
+-- The widths of the fields that are there.
+abbrev pub fieldsOn : List Row → List ℕ → List ℕ → List ℕ
+fieldsOn [] seen vals = []
+fieldsOn (r ∷ rs) seen vals =
+    pick (holds (told (r .cond) seen)) (total (r .boxes) ∷ []) [] ++ fieldsOn rs (seen ++ take (length (r .boxes)) vals) (drop (length (r .boxes)) vals)
+
+total-there : (t : Bool) (ws : List ℕ) → total (pick t ws (map (λ (w : ℕ). 0) ws)) ≡ pick t (total ws) 0
+total-there true ws = refl
+total-there false [] = refl
+total-there false (w ∷ ws) = let rest = total-there false ws in omega arith
+
+-- What an outcome comes to, as an answer made of a number and a place: 0 at 0, or the refusal's.
+abbrev pub verdict : {A B : Type 0} → (ℕ → ℕ → B) → Outcome A → B
+verdict answer (done a end) = answer 0 0
+verdict answer (refused n at i) = answer n at
+
+-- Fields from a bit on: 0 where they end within the room, and else 2 at the first that ends past it.
+abbrev fitting : {B : Type 0} → (ℕ → ℕ → B) → ℕ → List ℕ → ℕ → B
+fitting answer room ws at = pick (leb (at + total ws) room) (answer 0 0) (answer 2 (firstPast room ws at))
+
 module _ (room : ℕ) where
   whole : (k : ℕ) (seen vals : List ℕ) → (seen ++ take k vals) ++ drop k vals ≡ seen ++ vals
   whole k seen vals = rw (append-assoc, take-append-drop)
 
-  sound-walk : (rs : List Row) (i : ℕ) (seen vals : List ℕ) (at : ℕ) {n p j : ℕ} → Sound rs seen vals
-      → walk room (slotsOf (seen ++ vals)) rs i seen at ≡ refused n p j → n ≡ 2
-  sound-walk [] i seen vals at s h = never (sym h)
-  sound-walk (r ∷ rs) i seen vals at {n} {p} {j} (fits, ruled, rest) h =
-      let k : ℕ = length (r .boxes) in
+  -- Sound numbers walk to what their fields come to.
+  sound-walk : {B : Type 0} (answer : ℕ → ℕ → B) (rs : List Row) (i : ℕ) (seen vals : List ℕ) (at : ℕ) → Sound rs seen vals → at ≤ room
+      → verdict answer (walk room (slotsOf (seen ++ vals)) rs i seen at) ≡ fitting answer room (fieldsOn rs seen vals) at
+  sound-walk answer [] i seen vals at s h = let last : at + 0 ≤ room = omega arith in rw (le-leb _ _ last)
+  sound-walk answer (r ∷ rs) i seen vals at (fits, ruled, rest) h =
       let row = walk-row room (slotsOf (seen ++ vals)) r rs i seen at (take k vals) (slots-row r seen at vals) in
-      go (ltb room (at + total (boxesOf r seen))) (rw (row, fits, ruled) at h)
-      (λ e. sound-walk rs (suc i) (seen ++ take k vals) (drop k vals) (at + total (boxesOf r seen)) {n = n} {p = p} {j = j} rest (rw (whole k seen vals) e))
+      rw (row, fits, ruled)
+      (go (holds (told (r .cond) seen)) (ltb room (at + w)) (total-there (holds (told (r .cond) seen)) (r .boxes)) refl
+      (λ e. rw (whole k seen vals) at (sound-walk answer rs (suc i) (seen ++ take k vals) (drop k vals) (at + w) rest e)))
     where
-      next : Outcome (List ℕ)
-      next = walk room (slotsOf (seen ++ vals)) rs (suc i) (seen ++ take (length (r .boxes)) vals) (at + total (boxesOf r seen))
+      k : ℕ
+      k = length (r .boxes)
 
-      go : (past : Bool) → pick (eqb (pick past 2 0) 0) next (refused (pick past 2 0) at i) ≡ refused n p j → (next ≡ refused n p j → n ≡ 2) → n ≡ 2
-      go true h more = let two : 2 ≡ n = cc in sym two
-      go false h more = more h
+      w : ℕ
+      w = total (boxesOf r seen)
+
+      ws : List ℕ
+      ws = fieldsOn rs (seen ++ take k vals) (drop k vals)
+
+      next : Outcome (List ℕ)
+      next = walk room (slotsOf (seen ++ vals)) rs (suc i) (seen ++ take k vals) (at + w)
+
+      go : (on past : Bool) → w ≡ pick on (total (r .boxes)) 0 → ltb room (at + w) ≡ past → (at + w ≤ room → verdict answer next ≡ fitting answer room ws (at + w))
+          → verdict answer (pick (eqb (pick past 2 0) 0) next (refused (pick past 2 0) at i)) ≡ fitting answer room (pick on (total (r .boxes) ∷ []) [] ++ ws) at
+      go true true own e more = let far : room < at + (w + total ws) = omega (arith, ltb-true room (at + w) e) in rw (← own, e, lt-leb _ _ far)
+      go true false own e more = let same : at + w + total ws ≡ at + (w + total ws) = omega arith in rw (← own, e, ← same) (more (ltb-false _ _ e))
+      go false true own e more = absurd (omega (arith, ltb-true room (at + w) e))
+      go false false own e more = let same : at + w ≡ at = omega arith in more (ltb-false _ _ e) ∙ ap (fitting answer room ws) same
 
   walk-sound : (rs : List Row) (i : ℕ) (seen vals : List ℕ) (at : ℕ) {all : List ℕ} {end : ℕ}
       → walk room (slotsOf (seen ++ vals)) rs i seen at ≡ done all end → Sound rs seen vals
@@ -63,14 +97,16 @@ unfolding frame
 held-on rows bs r = r .held
 
 -- Of a whole writing.
-pub sound-written : (rows : List Row) (room : ℕ) (vals : List ℕ) {n p j : ℕ} → Sound rows [] vals → write rows room vals ≡ refused n p j → n ≡ 2
+pub sound-written : {B : Type 0} (answer : ℕ → ℕ → B) (rows : List Row) (room : ℕ) (vals : List ℕ) → Sound rows [] vals
+    → verdict answer (write rows room vals) ≡ pick (leb (total (fieldsOn rows [] vals)) room) (answer 0 0) (answer 2 (firstPast room (fieldsOn rows [] vals) 0))
 unfolding write
-sound-written rows room vals {n} {p} {j} s = go (walk room (slotsOf vals) rows 0 [] 0) refl
+sound-written answer rows room vals s =
+    let plain : 0 + total (fieldsOn rows [] vals) ≡ total (fieldsOn rows [] vals) = omega arith in
+    go (walk room (slotsOf vals) rows 0 [] 0) ∙ rw plain at (sound-walk room answer rows 0 [] vals 0 s (omega arith))
   where
-    go : (o : Outcome (List ℕ)) → walk room (slotsOf vals) rows 0 [] 0 ≡ o
-        → andThen o (λ all end. done (laidOn [] (frame rows vals) vals ++ zeros (room - end)) end) ≡ refused n p j → n ≡ 2
-    go (done all end) e h = never (sym h)
-    go (refused m q k) e h = let same : m ≡ n = cc in sym same ∙ sound-walk room rows 0 [] vals 0 s e
+    go : (o : Outcome (List ℕ)) → verdict answer (andThen o (λ all end. done (laidOn [] (frame rows vals) vals ++ zeros (room - end)) end)) ≡ verdict answer o
+    go (done all end) = refl
+    go (refused n p j) = refl
 
 -- The numbers of a reading are sound.
 pub read-sound : (rows : List Row) (bs : List Bool) {vals : List ℕ} {end : ℕ} → read rows bs ≡ done vals end → Sound rows [] vals

@@ -105,3 +105,8 @@ write rows room vals =
 abbrev pub slots : List Row → ℕ
 slots [] = 0
 slots (r ∷ rs) = length (r .boxes) + slots rs
+
+-- Of fields of some widths, one after the other from a bit on, the place of the first that ends past the room.
+abbrev pub firstPast : ℕ → List ℕ → ℕ → ℕ
+firstPast room [] at = at
+firstPast room (w ∷ ws) at = pick (ltb room (at + w)) at (firstPast room ws (at + w))
