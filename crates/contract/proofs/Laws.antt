@@ -1,6 +1,6 @@
 -- Contract: what was read, written onto any record, is the same bytes; what was written, read again, is the same value.
 use Prim.Native.Nat.{ℕ, _^_, _<_}
-use mathlib.Core.List.{List, _++_}
+use mathlib.Core.List.{List, [], _∷_, _++_}
 use mathlib.Core.Bool.{Bool, true, false, _||_, So, So-prop, false≢true}
 use mathlib.Core.HLevel.{Σ-prop-path}
 use mathlib.Core.Path.{_≡_, refl, sym, ap, _∙_}
@@ -12,7 +12,9 @@ use Rattle.bits.specs.Bits.{spread}
 use Rattle.rows.specs.Row.{pick}
 use Rattle.rows.specs.Walk.{Outcome, done, refused, andThen, read, write}
 use Rattle.rows.specs.table.Contract.{head, data42, data50, contract42, contract50}
-use Rattle.rows.proofs.RoundTrip.{read-slots, write-refused}
+use Rattle.rows.specs.Refusing.{readNumbers, writeNumbers}
+use Rattle.rows.proofs.RoundTrip.{read-slots}
+use Rattle.rows.proofs.Refusing.{within, refuses-then, write-number, write-refused}
 use Rattle.records.specs.Answer.{Written, refusal, accepted, denied, written, answered, readRecord, writeRecord, from}
 use Rattle.contract.specs.Contract.{data42Of, data50Of, numbers42, numbers50, headNumbers, withData, isCarnet, isUrban, tableOf, follow, contractOf, known, contractRead, suit, agrees, carnet, urban, numbersOf, disagreement, contractWritten}
 use Rattle.records.specs.declared.Refusal.{Refusal}
@@ -22,6 +24,7 @@ use Rattle.contract.specs.declared.Contract.{Contract}
 use Rattle.contract.specs.declared.ContractRead.{ContractRead}
 use Rattle.contract.specs.declared.ContractRead.the-variants.{Read, Refused}
 use Rattle.records.proofs.Inverse.{View, from-all, record-read-write, record-write-read}
+use Rattle.records.proofs.Coming.{ComesTo, unwritten, comes-within, either, stops, written-comes, record-comes, record-write-comes}
 use Rattle.contract.proofs.Absent.{zeroSlots, absent, read-absent}
 use Rattle.contract.proofs.Writing.{contract-sized}
 
@@ -188,3 +191,36 @@ contract-write-read kind before after c h =
     read-known kind after there
     ∙ record-write-read (λ (a : Agreed kind). Read (a .0)) Refused (same kind) (λ r a. apart r (a .0)) (view kind there) before after (c, agree)
     (sym (write-known kind c before there agree) ∙ h)
+
+-- The numbers that the tables of both types refuse with.
+contract-numbers : (t : Bool)
+    → (within (1 ∷ readNumbers 232 (pick t contract42 contract50)) (1 ∷ 3 ∷ 2 ∷ 4 ∷ 5 ∷ []) ≡ true)
+    × (within (1 ∷ writeNumbers 232 (pick t contract42 contract50)) (1 ∷ 3 ∷ 7 ∷ 2 ∷ 4 ∷ []) ≡ true)
+unfolding head data42 data50 contract42 contract50
+contract-numbers true = (refl, refl)
+contract-numbers false = (refl, refl)
+
+-- Data that do not agree are 7: so is a number of the head that is too wide, which always fits the record.
+disagreement-comes : (c : Contract) (before : List ℕ) → ComesTo accepted (unwritten before) (7 ∷ []) (disagreement c before)
+unfolding head
+disagreement-comes c before =
+    written-comes before (andThen (write head 232 (headNumbers c)) (λ bs end. refused 7 end 9))
+    (refuses-then (7 ∷ []) (write head 232 (headNumbers c)) (λ bs end. refused 7 end 9) (write-number head 232 (headNumbers c))
+    (λ bs end. record { some = λ z. omega arith; listed = refl }))
+
+-- The refusals of a reading and of a writing.
+pub contract-comes : (kind : ℕ) (bytes : List ℕ) → ComesTo Read Refused (1 ∷ 3 ∷ 2 ∷ 4 ∷ 5 ∷ []) (contractRead kind bytes)
+contract-comes kind bytes =
+    either (eqb (length bytes) 29)
+    (either (known kind) (comes-within (record-comes (contractOf kind) (tableOf kind) bytes) (contract-numbers (isCarnet kind) .0)) (stops (refusal 3 0) refl refl))
+    (stops (refusal 1 0) refl refl)
+
+pub contract-write-comes : (kind : ℕ) (c : Contract) (before : List ℕ)
+    → ComesTo accepted (unwritten before) (1 ∷ 3 ∷ 7 ∷ 2 ∷ 4 ∷ []) (contractWritten kind c before)
+contract-write-comes kind c before =
+    either (eqb (length before) 29)
+    (either (known kind)
+    (either (agrees kind c) (comes-within (record-write-comes (tableOf kind) (numbersOf kind c) before) (contract-numbers (isCarnet kind) .1))
+    (comes-within (disagreement-comes c before) refl))
+    (stops (refusal 3 0) refl refl))
+    (stops (refusal 1 0) refl refl)

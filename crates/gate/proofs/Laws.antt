@@ -12,8 +12,9 @@ use Rattle.bits.specs.Bits.{spread, cut, join, leading, zeros}
 use Rattle.bits.proofs.Cutting.{length-cut, length-spread, spread-cut, cut-spread}
 use Rattle.rows.proofs.Boxes.{length-join, leading-zeros, all-leading}
 use Rattle.rows.specs.Row.{pick}
-use Rattle.records.specs.Answer.{Written, accepted, denied}
-use Rattle.gate.specs.Writes.{applied, only, writesOf, applying, finding, joining, inSome, called, AllAccepted, writesIn, NoneFalls}
+use Rattle.records.specs.Answer.{Written, refusal, accepted, denied}
+use Rattle.records.proofs.Coming.{ComesTo, fine, unwritten, either, stops}
+use Rattle.gate.specs.Writes.{applied, only, writesOf, whole, applying, finding, joining, inSome, called, AllAccepted, writesIn, NoneFalls}
 use Rattle.gate.proofs.Bytewise.{length-only}
 
 -- A bit of two strings joined is one where it is in either.
@@ -287,3 +288,20 @@ finds-joined a b c x y z h k room =
     (ap (λ (w : Written). w .answer .number) found,
     rw (eq-eqb _ _ size, eq-eqb _ _ size′, eq-eqb _ _ room, bits, bits′,
     missing-joined (spread 8 a) (spread 8 b) (spread 8 c) (equal-bits a b first second) (equal-bits a c first third) none none′, found))
+
+-- The refusals of each call.
+pub apply-comes : (before writes : List ℕ) → ComesTo accepted (unwritten before) (1 ∷ 11 ∷ []) (applying before writes)
+unfolding applying
+apply-comes before writes =
+    either (whole before && eqb (length writes % 29) 0) (either (ltb 15 (length writes / 29)) (stops (refusal 11 0) refl refl) (fine _))
+    (stops (refusal 1 0) refl refl)
+
+pub find-comes : (present wanted before : List ℕ) → ComesTo accepted (unwritten before) (1 ∷ 10 ∷ []) (finding present wanted before)
+unfolding finding
+find-comes present wanted before =
+    let at : ℕ = leading (only (spread 8 present) (spread 8 wanted)) in
+    either (whole present && whole wanted && whole before) (either (ltb at 232) (stops (refusal 10 at) refl refl) (fine _)) (stops (refusal 1 0) refl refl)
+
+pub join-comes : (a b before : List ℕ) → ComesTo accepted (unwritten before) (1 ∷ []) (joining a b before)
+unfolding joining
+join-comes a b before = either (whole a && whole b && whole before) (fine _) (stops (refusal 1 0) refl refl)

@@ -1,20 +1,24 @@
 -- Holder: what was read, written onto as many bytes, is the same bytes; what was written, read again, is the same value.
 use Prim.Native.Nat.{ℕ, _*_, _^_, _<_}
-use mathlib.Core.List.{List}
+use mathlib.Core.List.{List, [], _∷_}
 use mathlib.Core.Bool.{Bool, true, false}
 use mathlib.Core.Path.{_≡_, refl, sym, ap, subst, _∙_}
 use native.Mathlib.Omega.{arith}
+use lib.Dec.{ltb}
 use lib.ListN.{length, getD}
 use Rattle.bits.specs.Bits.{spread}
 use Rattle.rows.specs.Row.{pick}
 use Rattle.rows.specs.Walk.{Outcome, done, refused, read, write}
 use Rattle.rows.specs.table.Holder.{holder}
+use Rattle.rows.specs.Refusing.{widest, readNumbers, writeNumbers}
 use Rattle.rows.proofs.RoundTrip.{read-slots}
+use Rattle.rows.proofs.Refusing.{read-refused, within}
 use Rattle.records.specs.Answer.{Written, refusal, accepted, denied, written, answered, areaLength, readArea, writeArea}
 use Rattle.holder.specs.Holder.{Spelled, numbersOf, holderOf, readOf, unread, holderRead, holderWritten}
 use Rattle.holder.specs.declared.Holder.{Holder}
 use Rattle.holder.specs.declared.HolderRead.{HolderRead}
-use Rattle.records.proofs.Inverse.{from-all, slots-read-write, slots-write-read, read-refused}
+use Rattle.records.proofs.Inverse.{from-all, slots-read-write, slots-write-read}
+use Rattle.records.proofs.Coming.{ComesTo, unwritten, comes-within, area-comes, area-write-comes}
 use Rattle.holder.proofs.Letters.{holder-back}
 
 -- 111 numbers are those of the Holder made of them.
@@ -55,3 +59,17 @@ holder-write-read before after h long counted = go (areaLength (length before)) 
         let again = slots-write-read holder (8 * length before) before refl (numbersOf h) after refl e in
         rw (again .2, l, again .1) (ap readOf (holder-back h long counted))
     go false l e = absurd (let one : _≡_ {A = ℕ} 1 0 = ap (λ (w : Written). w .answer .number) e in omega arith)
+
+-- The numbers that a Holder's table refuses with, whatever the room.
+holder-numbers : (t : Bool) (room : ℕ) → ltb room (widest holder) ≡ t
+    → (within (1 ∷ readNumbers room holder) (1 ∷ 2 ∷ 4 ∷ 5 ∷ []) ≡ true) × (within (1 ∷ writeNumbers room holder) (1 ∷ 2 ∷ 4 ∷ 7 ∷ []) ≡ true)
+unfolding holder
+holder-numbers true room e = (rw e, rw e)
+holder-numbers false room e = (rw e, rw e)
+
+-- The refusals of a reading and of a writing.
+pub holder-comes : (bytes : List ℕ) → ComesTo readOf unread (1 ∷ 2 ∷ 4 ∷ 5 ∷ []) (holderRead bytes)
+holder-comes bytes = comes-within (area-comes holderOf holder bytes) (holder-numbers _ (8 * length bytes) refl .0)
+
+pub holder-write-comes : (before : List ℕ) (h : Holder) → ComesTo accepted (unwritten before) (1 ∷ 2 ∷ 4 ∷ 7 ∷ []) (holderWritten before h)
+holder-write-comes before h = comes-within (area-write-comes holder (numbersOf h) before) (holder-numbers _ (8 * length before) refl .1)

@@ -9,19 +9,21 @@ use lib.ListN.{length, getD, take, length-take}
 use lib.Seq.{getD-take}
 use borrow.Author.Tests.{eqb-true, eqb-false, leb-true, le-leb, eq-eqb, ltb-false, not-true, ne-eqb}
 use Rattle.bits.specs.Bits.{spread}
-use Rattle.rows.specs.Row.{pick}
+use Rattle.rows.specs.Row.{pick, among}
 use Rattle.rows.specs.Walk.{Outcome, done, refused, andThen, read}
 use Rattle.rows.specs.table.BestContracts.{contractList}
 use Rattle.rows.proofs.Changing.{judged-read, passed}
+use Rattle.rows.proofs.Refusing.{read-refused}
 use Rattle.records.specs.Answer.{refusal, answered}
-use Rattle.records.proofs.Inverse.{read-refused}
+use Rattle.records.proofs.Coming.{ComesTo, fine, faulty}
 use Rattle.lists.specs.Listing.{column, obeying, readList}
-use Rattle.lists.specs.Rules.{among, keeps, faultAfter}
+use Rattle.lists.specs.Rules.{keeps, faultAfter}
 use Rattle.lists.specs.List.{listOf, gotList, noList, listFault, outside, listRead}
 use Rattle.lists.specs.Entries.{counted, without}
 use Rattle.lists.specs.declared.list.Entry.{Entry}
 use Rattle.lists.specs.declared.list.ContractList.{ContractList}
 use Rattle.lists.specs.declared.list.ListRead.{ListRead}
+use Rattle.lists.proofs.list.Laws.{list-comes}
 
 -- Pointers keep the rule behind some others: from 1 to a limit, and none twice.
 abbrev pub Apart : ℕ → List ℕ → List ℕ → Type 0
@@ -108,22 +110,11 @@ list-was-read n bytes l = go (eqb (length bytes) 29) refl (outside n) refl (read
 
 -- A reading without a refusal gave a list.
 pub list-got : (n : ℕ) (bytes : List ℕ) → listRead n bytes .refusal .number ≡ 0 → listRead n bytes ≡ gotList (listRead n bytes .list)
-unfolding readList
-list-got n bytes = go (eqb (length bytes) 29) (outside n) (read (contractList n) (spread 8 bytes)) refl
+list-got n bytes = go (list-comes n bytes)
   where
-    Got : ListRead → Type 0
-    Got r = r .refusal .number ≡ 0 → r ≡ gotList (r .list)
-
-    kept : (t : Bool) (vals : List ℕ) (end k : ℕ) → Got (answered (λ xs. gotList (listOf xs)) noList (pick t (done vals end) (refused 6 k 0)))
-    kept true vals end k z = refl
-    kept false vals end k z = absurd (omega arith)
-
-    go : (b out : Bool) (o : Outcome (List ℕ)) → read (contractList n) (spread 8 bytes) ≡ o
-        → Got (pick b (pick out (noList (refusal 11 0)) (answered (λ xs. gotList (listOf xs)) noList (andThen o (λ vals end. obeying (listFault n vals) vals end)))) (noList (refusal 1 0)))
-    go true false (done vals end) r z = kept (eqb (listFault n vals) 0) vals end (listFault n vals) z
-    go true false (refused m p j) r z = absurd (read-refused (contractList n) (spread 8 bytes) r z)
-    go true true o r z = absurd (omega arith)
-    go false out o r z = absurd (omega arith)
+    go : {ns : List ℕ} {r : ListRead} → ComesTo gotList noList ns r → r .refusal .number ≡ 0 → r ≡ gotList (r .list)
+    go (fine l) z = refl
+    go (faulty r why) z = absurd (why .some z)
 
 -- Its count is at most n.
 pub count-most : (n : ℕ) (bs : List Bool) {vals : List ℕ} {end : ℕ} → read (contractList n) bs ≡ done vals end → getD vals 0 0 ≤ n

@@ -4,5 +4,5 @@ pub mod Entries
 pub mod Relisting
 pub mod Kept
 pub mod Recoding
-pub mod Numbers
+pub mod Coming
 pub mod Sounding

@@ -1,34 +1,21 @@
 -- The round trips of both lists: a list's rule looks only at the numbers, which each way keeps.
-use Prim.Native.Nat.{ℕ, _+_, _^_, _<_}
-use mathlib.Core.List.{List, []}
+use Prim.Native.Nat.{ℕ, _^_, _<_}
+use mathlib.Core.List.{List}
 use mathlib.Core.Bool.{Bool, true, false}
 use mathlib.Core.Path.{_≡_, refl, sym, ap, _∙_}
 use native.Mathlib.Omega.{arith}
 use lib.Dec.{eqb}
-use lib.ListN.{length, getD, drop}
+use lib.ListN.{length, getD}
 use borrow.Author.Tests.{eqb-true, eq-eqb}
-use Rattle.bits.specs.Bits.{leading, spread}
+use Rattle.bits.specs.Bits.{spread}
 use Rattle.rows.specs.Row.{Row, pick}
-use Rattle.rows.specs.Walk.{Outcome, done, refused, andThen, walk, boxesAt, ending, read, write, slots}
-use Rattle.rows.proofs.Walked.{never, walk-refused}
-use Rattle.rows.proofs.RoundTrip.{read-slots, write-refused}
+use Rattle.rows.specs.Walk.{Outcome, done, refused, andThen, read, write, slots}
+use Rattle.rows.proofs.RoundTrip.{read-slots}
+use Rattle.rows.proofs.Refusing.{read-refused, write-refused}
 use Rattle.records.specs.Answer.{Written, refusal, accepted, denied, written, answered}
 use Rattle.lists.specs.Listing.{obeying, readList, writeList}
 use Rattle.records.specs.declared.Refusal.{Refusal}
 use Rattle.records.proofs.Inverse.{slots-read-write, slots-write-read}
-
--- A refusal of a reading has a number that is not zero.
-read-refused : (rows : List Row) (bs : List Bool) {n at i : ℕ} → read rows bs ≡ refused n at i → n ≡ 0 → ⊥
-unfolding read ending
-read-refused rows bs {n} {at} {i} h z = go (walk (length bs) (boxesAt bs) rows 0 [] 0) refl h
-  where
-    last : (t : Bool) (vals : List ℕ) (end m : ℕ) → pick t (done vals end) (refused 5 m 0) ≡ refused n at i → ⊥
-    last true vals end m h = never (sym h)
-    last false vals end m h = let five : 5 ≡ n = cc in omega arith
-
-    go : (o : Outcome (List ℕ)) → walk (length bs) (boxesAt bs) rows 0 [] 0 ≡ o → andThen o (ending bs) ≡ refused n at i → ⊥
-    go (done vals end) e h = last (eqb (end + leading (drop end bs)) (length bs)) vals end (end + leading (drop end bs)) h
-    go (refused m p j) e h = let same : m ≡ n = cc in walk-refused (length bs) (boxesAt bs) rows 0 [] 0 e (same ∙ z)
 
 -- A list that keeps its rule is written as any record.
 obeying-none : {A : Type 0} (k : ℕ) (o : Outcome A) → k ≡ 0 → andThen o (λ a end. obeying k a end) ≡ o

@@ -8,8 +8,8 @@ use native.Mathlib.Numerals.{add-one}
 use lib.Dec.{eqb}
 use lib.ListN.{length, getD, take, drop, length-take, drop-of-length-le}
 use lib.Seq.{drop-cons, take-suc, getD-take, length-take-le}
-use Rattle.rows.specs.Row.{pick}
-use Rattle.lists.specs.Rules.{among, keeps, faultAfter}
+use Rattle.rows.specs.Row.{pick, among}
+use Rattle.lists.specs.Rules.{keeps, faultAfter}
 
 -- The first n from i on are number i and the rest.
 cons-at : (n : ℕ) (l : List ℕ) (i : ℕ) → i < n → i < length l → drop i (take n l) ≡ getD l i 0 ∷ drop (i + 1) (take n l)

@@ -2,14 +2,10 @@
 -- present; pointers are distinct, from 1 to a limit; a repeated one is the later entry's fault.
 use Prim.Native.Nat.{ℕ, suc, _/_}
 use mathlib.Core.List.{List, [], _∷_, _++_}
-use mathlib.Core.Bool.{Bool, false, _&&_, _||_, not}
+use mathlib.Core.Bool.{Bool, _&&_, not}
 use lib.Dec.{eqb, leb}
 use lib.ListN.{length}
-use Rattle.rows.specs.Row.{pick}
-
-abbrev pub among : ℕ → List ℕ → Bool
-among p [] = false
-among p (q ∷ qs) = eqb q p || among p qs
+use Rattle.rows.specs.Row.{pick, among}
 
 -- Whether an entry keeps the rule, with the pointers before it: its bitmap, but for element [0], the network, is full.
 abbrev pub keeps : ℕ → ℕ → List ℕ → ℕ → ℕ → Bool

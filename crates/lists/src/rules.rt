@@ -2,7 +2,8 @@
 ghost use mathlib.Core.Path.{_≡_};
 ghost use Prim.Native.Nat.{_≤_, _<_};
 ghost use lib.ListN.{length, getD, take};
-ghost use Rattle.lists.specs.Rules.{among, keeps, firstAtFault};
+ghost use Rattle.rows.specs.Row.{among};
+ghost use Rattle.lists.specs.Rules.{keeps, firstAtFault};
 ghost use Rattle.lists.specs.inner.Steps.{obeyed};
 use rows::Cursor;
 

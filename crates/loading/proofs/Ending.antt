@@ -3,18 +3,17 @@ use Prim.Native.Nat.{ℕ, suc, _-_, _*_, _/_, _%_, _^_, _≤_, _<_}
 use mathlib.Core.Bool.{Bool, true, false, not, _&&_, _||_, true≢false}
 use mathlib.Core.List.{List, [], _∷_, map, List·Memᴰ, List·Memᴰ·head, List·Memᴰ·tail}
 use mathlib.Core.Path.{_≡_, refl, sym, ap, _∙_}
-use mathlib.Core.Logic.{inl, ⊎-elim}
+use mathlib.Core.Logic.{⊎-elim}
 use native.Mathlib.Omega.{arith}
 use lib.Dec.{eqb, leb}
 use lib.ListN.{length, getD, drop, length-map, length-drop, replicate}
 use lib.Seq.{length-take-le}
 use borrow.Author.Tests.{eq-eqb, ne-eqb, eqb-true, eqb-false, leb-true, not-true}
-use Rattle.rows.specs.Row.{pick}
+use Rattle.rows.specs.Row.{pick, among}
 use Rattle.records.specs.Answer.{refusal, accepted}
 use Rattle.records.specs.Order.{Attempt, got, stopped, needs, recordFrom}
 use Rattle.records.specs.declared.Refusal.{Refusal}
 use Rattle.lists.specs.List.{gotList, listRead}
-use Rattle.lists.specs.Rules.{among}
 use Rattle.lists.specs.Entries.{counted, listing, without}
 use Rattle.lists.specs.declared.list.Entry.{Entry}
 use Rattle.lists.specs.declared.list.ContractList.{ContractList}
@@ -33,7 +32,7 @@ use Rattle.loading.specs.inner.Marks.{marked, refusalOf, Marking}
 use Rattle.loading.specs.inner.Store.{renewed, stored}
 use Rattle.loading.specs.declared.Order.{Order}
 use Rattle.loading.proofs.Placing.{Named, placed-free-or-erasable, place-marked}
-use Rattle.loading.proofs.Told.{blocking-never}
+use Rattle.loading.proofs.Told.{blocking-stops}
 
 -- What all of some tests tell of one.
 of-six : (a b c d e f : Bool) → (a && b && c && d && e && f) ≡ true → (a ≡ true) × (b ≡ true) × (e ≡ true) × (f ≡ true)
@@ -175,7 +174,7 @@ module _ (o : Order) (list file : List ℕ) (lent : Lent) where
             pub refused-contract : (y : Refusal) → contractRead (o .kind) (lent .new) ≡ Refused y → loaded y 0 list file ≡ loading o list file lent
             unfolding placing
             refused-contract y e =
-                let (blocked, events, placed) = place-marked (blocking-never 0 (inl refl) o (lent .special) (lent .journal) (lent .records)) m quiet in
+                let (blocked, events, placed) = place-marked (blocking-stops o (lent .special) (lent .journal) (lent .records)) m quiet in
                 rw (read-all, ← same, eq-eqb _ _ reads, events, e)
 
             named-place : (c : Contract) (blocked : ℕ → Bool) (p : ℕ) → blocking o (lent .special) (lent .journal) (lent .records) ≡ got blocked
@@ -207,5 +206,5 @@ module _ (o : Order) (list file : List ℕ) (lent : Lent) where
                 → p ≡ place (marked marks) (o .n) (o .c) (o .counter) (counted (r .list))
                 → stored o list file (r .list) c p ≡ loading o list file lent
             loads c p e small named =
-                let (blocked, events, same-place) = place-marked (blocking-never 0 (inl refl) o (lent .special) (lent .journal) (lent .records)) m quiet in
+                let (blocked, events, same-place) = place-marked (blocking-stops o (lent .special) (lent .journal) (lent .records)) m quiet in
                 named-place c blocked p events e small (named ∙ same-place (o .n) (o .c) (o .counter) (counted (r .list)) (card .most) (card .counters))

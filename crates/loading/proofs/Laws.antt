@@ -10,51 +10,30 @@ use lib.Dec.{eqb, ltb, leb}
 use lib.ListN.{length, take, drop, length-append, length-drop, take-append-drop}
 use lib.Seq.{length-take-le, take-at, drop-at, drop-append-le, take-append-le, drop-append-add, drop-drop}
 use borrow.Author.Tests.{eq-eqb, ne-eqb, eqb-true, eqb-false, ltb-true, ltb-false, leb-true, not-true}
-use Rattle.rows.specs.Row.{pick}
+use Rattle.rows.specs.Row.{pick, among}
+use Rattle.rows.proofs.Refusing.{Refusing}
 use Rattle.records.specs.Answer.{Written, refusal, accepted}
 use Rattle.records.specs.Order.{Attempt, got, stopped, next, needs, recordFrom}
 use Rattle.records.specs.declared.Refusal.{Refusal}
-use Rattle.rows.specs.table.BestContracts.{contractList}
-use Rattle.lists.specs.List.{numbersOf, gotList, outside, listFault, listRead, listWritten}
-use Rattle.lists.specs.Rules.{among}
+use Rattle.records.proofs.Coming.{ComesTo, fine, faulty, comes-within, stops, written-taken}
+use Rattle.lists.specs.List.{gotList, listRead, listWritten}
 use Rattle.lists.specs.Entries.{counted, listing, attempted, without, listBits, pastRecord}
 use Rattle.lists.specs.declared.list.Entry.{Entry}
 use Rattle.lists.specs.declared.list.ContractList.{ContractList}
 use Rattle.lists.proofs.Kept.{Apart, list-kept, list-got, one-each, apart-afterwards}
 use Rattle.lists.proofs.Sounding.{Good, made-good, good-without, good-append, read-good, written-or-two}
-use Rattle.lists.proofs.Numbers.{list-write-number}
-use Rattle.lists.proofs.list.Laws.{list-write-read}
+use Rattle.lists.proofs.list.Laws.{list-write-read, list-write-comes}
 use Rattle.contract.specs.Contract.{contractRead}
 use Rattle.contract.specs.declared.Contract.{Contract}
 use Rattle.contract.specs.declared.ContractRead.{ContractRead}
 use Rattle.contract.specs.declared.ContractRead.the-variants.{Read, Refused}
 use Rattle.loading.specs.Place.{erasable, place, afterwards}
-use Rattle.loading.specs.Loading.{Lent, Found, found, Outcome, contractGot, lengths, lengthsOf, entryFits, networkFits, limits, loaded, newEntry, placed, bothOrNeither, blocking, placing, finding, settled, loading}
+use Rattle.loading.specs.Loading.{Lent, Found, found, Outcome, contractGot, lengths, lengthsOf, entryFits, networkFits, limits, loaded, bothOrNeither, newEntry, placed, blocking, placing, finding, settled, loading}
 use Rattle.loading.specs.declared.Order.{Order}
+use Rattle.loading.specs.declared.Loaded.{Loaded}
 use Rattle.loading.proofs.Placing.{Named, placed-free-or-erasable}
-use Rattle.loading.proofs.Told.{apart, Never, Unused, next-never, needs-never, list-never, blocking-never, contract-never}
-use Rattle.loading.proofs.Storing.{list-taken}
+use Rattle.loading.proofs.Told.{apart, readings, Stops, list-stops, blocking-stops, contract-stops}
 use Rattle.loading.proofs.Ending.{Card, unread-none, free-among, room-for}
-
--- Steps that came to a value, each by itself.
-next-got : {A B : Type 0} (t : Attempt A) (more : A → Attempt B) {b : B} → next t more ≡ got b → (a : A) × (t ≡ got a) × (more a ≡ got b)
-next-got (got a) more h = (a, refl, h)
-next-got (stopped r) more h = apart (sym h)
-
-needs-got : {A : Type 0} (t : Bool) (n : ℕ) (more : Attempt A) {a : A} → needs t n more ≡ got a → (t ≡ true) × (more ≡ got a)
-needs-got true n more h = (refl, h)
-needs-got false n more h = apart (sym h)
-
--- The steps that were stopped by k, which the first cannot be.
-next-stopped : {A B : Type 0} (k : ℕ) (t : Attempt A) (more : A → Attempt B) {r : Refusal} → Never k t → next t more ≡ stopped r → r .number ≡ k
-    → (a : A) × (t ≡ got a) × (more a ≡ stopped r)
-next-stopped k (got a) more never h z = (a, refl, h)
-next-stopped k (stopped s) more {r} never h z = absurd (let same : s ≡ r = cc in never s refl (rw same z))
-
-needs-stopped : {A : Type 0} (k : ℕ) (t : Bool) (n : ℕ) (more : Attempt A) {r : Refusal} → (n ≡ k → ⊥) → needs t n more ≡ stopped r → r .number ≡ k
-    → (t ≡ true) × (more ≡ stopped r)
-needs-stopped k true n more other h z = (refl, h)
-needs-stopped k false n more {r} other h z = absurd (other (let same : refusal n 0 ≡ r = cc in ap (λ (x : Refusal). x .number) same ∙ z))
 
 -- The contract file with a record at its place: that record, and every other.
 module _ (p : ℕ) (new file : List ℕ) (long : length new ≡ 29) (room : 29 * (p - 1) + 29 ≤ length file) where
@@ -113,13 +92,6 @@ left-over (x ∷ es) e p (List·Memᴰ·tail there) other = go (eqb (x .pointer)
     go true m = m
     go false m = List·Memᴰ·tail m
 
-names-none : (p : ℕ) (f : Found) (r : Refusal) → needs (not (eqb p 0)) 9 (got f) ≡ stopped r → p ≡ 0
-names-none p f r = go (eqb p 0) refl
-  where
-    go : (t : Bool) → eqb p 0 ≡ t → needs (not t) 9 (got f) ≡ stopped r → p ≡ 0
-    go true e h = eqb-true _ _ e
-    go false e h = apart h
-
 -- All that was read: the list, the pointers that the events block, the new contract; and the pointer that the rule names.
 pub record AllRead (o : Order) (list file : List ℕ) (lent : Lent) : Type 0 where
   pub card : Card o list file lent
@@ -149,30 +121,48 @@ contract-got : (r : ContractRead) (c : Contract) → contractGot r ≡ got c →
 contract-got (Read d) c h = cc
 contract-got (Refused x) c h = apart (sym h)
 
--- Where a place was found, all was read.
-found-read : (o : Order) (list file : List ℕ) (lent : Lent) (f : Found) → finding o list file lent ≡ got f
-    → (a : AllRead o list file lent) × (f ≡ record { entries = counted (a .l); pointer = namedBy a }) × (namedBy a ≡ 0 → ⊥)
+-- How the steps before the last end: with a refusal; with all read, and no pointer named; with a pointer.
+data Ended (o : Order) (list file : List ℕ) (lent : Lent) : Attempt Found → Type 0 where
+  halted : (r : Refusal) → Refusing (r .number) readings → Ended o list file lent (stopped r)
+  nowhere : (a : AllRead o list file lent) → namedBy a ≡ 0 → Ended o list file lent (stopped (refusal 9 0))
+  somewhere : (a : AllRead o list file lent) → (namedBy a ≡ 0 → ⊥) → Ended o list file lent (got (record { entries = counted (a .l); pointer = namedBy a }))
+
+finding-ended : (o : Order) (list file : List ℕ) (lent : Lent) → Ended o list file lent (finding o list file lent)
 unfolding finding placing
-found-read o list file lent f h =
-    let (lengths-ok, h1) = needs-got (lengths o (lengthsOf list file lent)) 1 (needs (limits o (length (lent .journal) / 29)) 11 (placing o list lent)) h in
-    let (limits-ok, h2) = needs-got (limits o (length (lent .journal) / 29)) 11 (placing o list lent) h1 in
-    let (l, list-ok, h3) = next-got (attempted (listRead (o .n) list)) _ h2 in
-    let (blocked, events, h4) = next-got (blocking o (lent .special) (lent .journal) (lent .records)) _ h3 in
-    let (new, contract-ok, h5) = next-got (contractGot (contractRead (o .kind) (lent .new))) _ h4 in
-    let p : ℕ = place blocked (o .n) (o .c) (o .counter) (counted l) in
-    let (named, h6) = needs-got (not (eqb p 0)) 9 (got (record { entries = counted l; pointer = p })) h5 in
-    let card = unread-none o list file lent (rw (lengths-ok, limits-ok)) in
-    let all : AllRead o list file lent =
-    record {
-      card = card;
-      l = l;
-      reads = attempted-got (o .n) list l list-ok;
-      blocked = blocked;
-      events = events;
-      new = new;
-      contract = contract-got (contractRead (o .kind) (lent .new)) new contract-ok;
-    } in
-    (all, cc, eqb-false _ _ (not-true _ named))
+finding-ended o list file lent =
+    go (lengths o (lengthsOf list file lent)) refl (limits o (length (lent .journal) / 29)) refl
+    (attempted (listRead (o .n) list)) refl (list-stops (o .n) list)
+    (blocking o (lent .special) (lent .journal) (lent .records)) refl (blocking-stops o (lent .special) (lent .journal) (lent .records))
+    (contractGot (contractRead (o .kind) (lent .new))) refl (contract-stops (o .kind) (lent .new))
+  where
+    named : (a : AllRead o list file lent) (t : Bool) → eqb (namedBy a) 0 ≡ t
+        → Ended o list file lent (needs (not t) 9 (got (record { entries = counted (a .l); pointer = namedBy a })))
+    named a true e = nowhere a (eqb-true _ _ e)
+    named a false e = somewhere a (eqb-false _ _ e)
+
+    go : (a : Bool) → lengths o (lengthsOf list file lent) ≡ a → (b : Bool) → limits o (length (lent .journal) / 29) ≡ b
+        → (t : Attempt ContractList) → attempted (listRead (o .n) list) ≡ t → Stops t
+        → (u : Attempt (ℕ → Bool)) → blocking o (lent .special) (lent .journal) (lent .records) ≡ u → Stops u
+        → (w : Attempt Contract) → contractGot (contractRead (o .kind) (lent .new)) ≡ w → Stops w
+        → Ended o list file lent
+        (needs a 1 (needs b 11 (next t (λ l. next u (λ blocked. next w (λ new. found (counted l) (place blocked (o .n) (o .c) (o .counter) (counted l))))))))
+    go false ea b eb t et st u eu su w ew sw = halted (refusal 1 0) (record { some = λ z. omega arith; listed = refl })
+    go true ea false eb t et st u eu su w ew sw = halted (refusal 11 0) (record { some = λ z. omega arith; listed = refl })
+    go true ea true eb (stopped r) et st u eu su w ew sw = halted r st
+    go true ea true eb (got l) et st (stopped r) eu su w ew sw = halted r su
+    go true ea true eb (got l) et st (got blocked) eu su (stopped r) ew sw = halted r sw
+    go true ea true eb (got l) et st (got blocked) eu su (got new) ew sw =
+        let all : AllRead o list file lent =
+        record {
+          card = unread-none o list file lent (rw (ea, eb));
+          l = l;
+          reads = attempted-got (o .n) list l et;
+          blocked = blocked;
+          events = eu;
+          new = new;
+          contract = contract-got (contractRead (o .kind) (lent .new)) new ew;
+        } in
+        named all (eqb (namedBy all) 0) refl
 
 -- And the other way round.
 read-found : {o : Order} {list file : List ℕ} {lent : Lent} (a : AllRead o list file lent)
@@ -231,64 +221,39 @@ module _ (o : Order) (list file : List ℕ) (lent : Lent) where
   abbrev out : Outcome
   out = loading o list file lent
 
+  -- The refusals of loading.
+  pub load-comes : ComesTo (λ (x : ℕ × List ℕ × List ℕ). loaded (refusal 0 0) (x .0) (x .1) (x .2)) (λ r. loaded r 0 list file)
+      (1 ∷ 11 ∷ 2 ∷ 3 ∷ 4 ∷ 5 ∷ 6 ∷ 9 ∷ []) out
+  unfolding loading
+  load-comes = go (finding-ended o list file lent)
+    where
+      Comes : Outcome → Type 0
+      Comes x = ComesTo (λ (x : ℕ × List ℕ × List ℕ). loaded (refusal 0 0) (x .0) (x .1) (x .2)) (λ r. loaded r 0 list file) (1 ∷ 11 ∷ 2 ∷ 3 ∷ 4 ∷ 5 ∷ 6 ∷ 9 ∷ []) x
+
+      stores : (p at : ℕ) (w : Written) (after : List ℕ) (fits : Bool) → w .answer ≡ pick fits (refusal 0 0) (refusal 2 at)
+          → Comes (bothOrNeither list file p w after)
+      stores p at w after true e = rw e (fine (p, w .bytes, after))
+      stores p at w after false e = rw e (stops (refusal 2 at) refl refl)
+
+      go : {t : Attempt Found} → Ended o list file lent t → Comes (settled o list file (lent .new) t)
+      go (halted r why) = comes-within (faulty r why) refl
+      go (nowhere a none) = stops (refusal 9 0) refl refl
+      go (somewhere a some) =
+          stores (namedBy a) (pastRecord (entriesAfter a)) _ (placed (namedBy a) (lent .new) file) (leb (listBits (entriesAfter a)) 232) (list-or-two a some)
+
   -- Refused, both are as they were, and the pointer is 0.
   pub refused-unchanged : (out .answer .refusal .number ≡ 0 → ⊥) → (out .list ≡ list) × (out .file ≡ file) × (out .answer .pointer ≡ 0)
-  unfolding loading
-  refused-unchanged = go (finding o list file lent)
+  refused-unchanged = go load-comes
     where
-      w : Found → Written
-      w f = listWritten (o .n) (listing (afterwards (newEntry o (f .pointer)) (f .entries))) list
-
-      stores : (f : Found) (t : Bool)
-          → (pick t (loaded (refusal 0 0) (f .pointer) (w f .bytes) (placed (f .pointer) (lent .new) file)) (loaded (w f .answer) 0 list file) .answer .refusal .number ≡ 0 → ⊥)
-          → (pick t (loaded (refusal 0 0) (f .pointer) (w f .bytes) (placed (f .pointer) (lent .new) file)) (loaded (w f .answer) 0 list file) .list ≡ list)
-          × (pick t (loaded (refusal 0 0) (f .pointer) (w f .bytes) (placed (f .pointer) (lent .new) file)) (loaded (w f .answer) 0 list file) .file ≡ file)
-          × (pick t (loaded (refusal 0 0) (f .pointer) (w f .bytes) (placed (f .pointer) (lent .new) file)) (loaded (w f .answer) 0 list file) .answer .pointer ≡ 0)
-      stores f true h = absurd (h refl)
-      stores f false h = (refl, refl, refl)
-
-      go : (t : Attempt Found) → (settled o list file (lent .new) t .answer .refusal .number ≡ 0 → ⊥)
-          → (settled o list file (lent .new) t .list ≡ list) × (settled o list file (lent .new) t .file ≡ file) × (settled o list file (lent .new) t .answer .pointer ≡ 0)
-      go (got f) h = stores f (eqb (w f .answer .number) 0) h
-      go (stopped r) h = (refl, refl, refl)
-
-  found-never : Never 0 (finding o list file lent)
-  unfolding finding placing
-  found-never =
-      needs-never 0 (lengths o (lengthsOf list file lent)) 1 _ (λ e. omega arith)
-      (needs-never 0 (limits o (length (lent .journal) / 29)) 11 _ (λ e. omega arith)
-      (next-never 0 (attempted (listRead (o .n) list)) _ (list-never 0 (inl refl) (o .n) list)
-      (λ l. next-never 0 (blocking o (lent .special) (lent .journal) (lent .records)) _ (blocking-never 0 (inl refl) o (lent .special) (lent .journal) (lent .records))
-      (λ blocked. next-never 0 (contractGot (contractRead (o .kind) (lent .new))) _ (contract-never 0 (inl refl) (o .kind) (lent .new))
-      (λ new. needs-never 0 (not (eqb (place blocked (o .n) (o .c) (o .counter) (counted l)) 0)) 9 (got _) (λ e. omega arith) (λ r e z. apart e))))))
-
-  -- Where it was 9 that stopped it, all was read.
-  stopped-nine : (r : Refusal) → finding o list file lent ≡ stopped r → r .number ≡ 9 → (a : AllRead o list file lent) × (namedBy a ≡ 0)
-  unfolding finding placing
-  stopped-nine r h z =
-      let far : Unused 9 = inr (omega arith, λ e. omega arith) in
-      let (lengths-ok, h1) = needs-stopped 9 (lengths o (lengthsOf list file lent)) 1 (needs (limits o (length (lent .journal) / 29)) 11 (placing o list lent)) (λ e. omega arith) h z in
-      let (limits-ok, h2) = needs-stopped 9 (limits o (length (lent .journal) / 29)) 11 (placing o list lent) (λ e. omega arith) h1 z in
-      let (l, list-ok, h3) = next-stopped 9 (attempted (listRead (o .n) list)) _ (list-never 9 far (o .n) list) h2 z in
-      let (blocked, events, h4) = next-stopped 9 (blocking o (lent .special) (lent .journal) (lent .records)) _ (blocking-never 9 far o (lent .special) (lent .journal) (lent .records)) h3 z in
-      let (new, contract-ok, h5) = next-stopped 9 (contractGot (contractRead (o .kind) (lent .new))) _ (contract-never 9 far (o .kind) (lent .new)) h4 z in
-      let card = unread-none o list file lent (rw (lengths-ok, limits-ok)) in
-      let all : AllRead o list file lent =
-      record {
-        card = card;
-        l = l;
-        reads = attempted-got (o .n) list l list-ok;
-        blocked = blocked;
-        events = events;
-        new = new;
-        contract = contract-got (contractRead (o .kind) (lent .new)) new contract-ok;
-      } in
-      (all, names-none (place blocked (o .n) (o .c) (o .counter) (counted l)) _ r h5)
+      go : {ns : List ℕ} {x : Outcome} → ComesTo (λ (x : ℕ × List ℕ × List ℕ). loaded (refusal 0 0) (x .0) (x .1) (x .2)) (λ r. loaded r 0 list file) ns x
+          → (x .answer .refusal .number ≡ 0 → ⊥) → (x .list ≡ list) × (x .file ≡ file) × (x .answer .pointer ≡ 0)
+      go (fine x) h = absurd (h refl)
+      go (faulty r why) h = (refl, refl, refl)
 
   -- Accepted, it did what the rule says.
   pub accepted-loading : out .answer .refusal .number ≡ 0 → Accepted o list file lent out
   unfolding loading
-  accepted-loading = go (finding o list file lent) refl
+  accepted-loading = go (finding-ended o list file lent)
     where
       stores : (a : AllRead o list file lent) → (namedBy a ≡ 0 → ⊥) → (w : Written)
           → listWritten (o .n) (listing (afterwards (newEntry o (namedBy a)) (counted (a .l)))) list ≡ w
@@ -297,16 +262,15 @@ module _ (o : Order) (list file : List ℕ) (lent : Lent) where
           → Accepted o list file lent (pick t (loaded (refusal 0 0) (namedBy a) (w .bytes) (placed (namedBy a) (lent .new) file)) (loaded (w .answer) 0 list file))
       stores a some w e true z h =
           let zero = eqb-true _ _ z in
-          let taken : w ≡ accepted (w .bytes) = rw e at (list-taken (o .n) (listing (afterwards (newEntry o (namedBy a)) (counted (a .l)))) list (rw e zero)) in
+          let taken : w ≡ accepted (w .bytes) = rw e at (written-taken list (list-write-comes (o .n) (listing (afterwards (newEntry o (namedBy a)) (counted (a .l)))) list) (rw e zero)) in
           record { all = a; named = refl; pointer = some; listed = e ∙ taken; filed = refl }
       stores a some w e false z h = absurd (eqb-false _ _ z h)
 
-      go : (t : Attempt Found) → finding o list file lent ≡ t → settled o list file (lent .new) t .answer .refusal .number ≡ 0
+      go : {t : Attempt Found} → Ended o list file lent t → settled o list file (lent .new) t .answer .refusal .number ≡ 0
           → Accepted o list file lent (settled o list file (lent .new) t)
-      go (got f) e h =
-          let (a, same, some) = found-read o list file lent f e in
-          rw same (stores a some _ refl _ refl (rw same at h))
-      go (stopped r) e h = absurd (found-never r e h)
+      go (halted r why) h = absurd (why .some h)
+      go (nowhere a none) h = absurd (omega arith)
+      go (somewhere a some) h = stores a some _ refl _ refl h
 
   -- The list afterwards reads as the old entries in order, without any of the pointer, then the new one.
   pub list-afterwards : (a : Accepted o list file lent out)
@@ -356,16 +320,20 @@ module _ (o : Order) (list file : List ℕ) (lent : Lent) where
   -- 9 exactly where all reads and the rule names none.
   pub nine-none : out .answer .refusal .number ≡ 9 → (a : AllRead o list file lent) × (namedBy a ≡ 0)
   unfolding loading
-  nine-none = go (finding o list file lent) refl
+  nine-none = go (finding-ended o list file lent)
     where
-      stores : (f : Found) (t : Bool) → pick t (loaded (refusal 0 0) (f .pointer) (listWritten (o .n) (listing (afterwards (newEntry o (f .pointer)) (f .entries))) list .bytes) (placed (f .pointer) (lent .new) file)) (loaded (listWritten (o .n) (listing (afterwards (newEntry o (f .pointer)) (f .entries))) list .answer) 0 list file) .answer .refusal .number ≡ 9 → ⊥
-      stores f true h = omega arith
-      stores f false h = list-write-number (listFault (o .n)) (outside (o .n)) (contractList (o .n)) (numbersOf (listing (afterwards (newEntry o (f .pointer)) (f .entries)))) list 9 (omega arith) (λ e. omega arith) h
+      zero-or-two : (fits : Bool) (p at : ℕ) (x : Loaded)
+          → x ≡ pick fits (record { refusal = refusal 0 0; pointer = p }) (record { refusal = refusal 2 at; pointer = 0 }) → x .refusal .number ≡ 9 → ⊥
+      zero-or-two true p at x e h = let z : _≡_ {A = ℕ} 0 9 = rw e at h in omega arith
+      zero-or-two false p at x e h = let z : _≡_ {A = ℕ} 2 9 = rw e at h in omega arith
 
-      go : (t : Attempt Found) → finding o list file lent ≡ t → settled o list file (lent .new) t .answer .refusal .number ≡ 9
+      go : {t : Attempt Found} → Ended o list file lent t → settled o list file (lent .new) t .answer .refusal .number ≡ 9
           → (a : AllRead o list file lent) × (namedBy a ≡ 0)
-      go (got f) e h = absurd (stores f (eqb (listWritten (o .n) (listing (afterwards (newEntry o (f .pointer)) (f .entries))) list .answer .number) 0) h)
-      go (stopped r) e h = stopped-nine r e h
+      go (halted r why) h = absurd (true≢false (sym (rw h at (why .listed))))
+      go (nowhere a none) h = (a, none)
+      go (somewhere a some) h =
+          let fits : Bool = leb (listBits (entriesAfter a)) 232 in
+          absurd (zero-or-two fits _ _ _ (answers list file (namedBy a) (pastRecord (entriesAfter a)) _ (placed (namedBy a) (lent .new) file) fits (list-or-two a some)) h)
 
   pub none-nine : (a : AllRead o list file lent) → namedBy a ≡ 0 → out ≡ loaded (refusal 9 0) 0 list file
   unfolding loading

@@ -3,7 +3,6 @@ use Prim.Native.Nat.{ℕ, suc, _+_, _-_, _*_, _/_, _≤_, _<_}
 use mathlib.Core.Path.{_≡_, refl, sym, ap, subst, _∙_}
 use mathlib.Core.List.{List, [], _∷_}
 use mathlib.Core.Bool.{Bool, true, false, _&&_, _||_, or-false, or-true, or-assoc}
-use mathlib.Core.Logic.{inl}
 use native.Mathlib.Omega.{arith}
 use native.Mathlib.Numerals.{add-one}
 use native.Mathlib.Nat.{sub-zero}
@@ -25,7 +24,7 @@ use Rattle.lists.specs.declared.special.SpecialRead.{SpecialRead}
 use Rattle.loading.specs.Blocking.{some, moment, blocks, namedBySpecial, blocked}
 use Rattle.loading.specs.Loading.{blocking}
 use Rattle.loading.specs.declared.Order.{Order}
-use Rattle.loading.proofs.Told.{events-never}
+use Rattle.loading.proofs.Told.{Stops, events-stop}
 use Rattle.loading.specs.inner.Marks.{marked, Added, Marking}
 
 apart : {A : Type 0} {r : Refusal} {a : A} → stopped r ≡ got a → ⊥
@@ -169,16 +168,16 @@ module _ (o : Order) (special journal records : List ℕ) {r : SpecialRead} (rea
     blocking-read {after} {t} fine sized last =
         let n : length records / 29 ≡ o .s = omega arith in
         rw (← read, eq-eqb (r .refusal .number) 0 good)
-        (go (events (length journal / 29) journal 0) (events-never 0 (inl refl) (length journal / 29) journal 0) past (events (o .s) records 0) (rw n at last))
+        (go (events (length journal / 29) journal 0) (events-stop (length journal / 29) journal 0) past (events (o .s) records 0) (rw n at last))
       where
-        go : (j : Attempt (List Event)) → ((x : Refusal) → j ≡ stopped x → x .number ≡ 0 → ⊥)
+        go : (j : Attempt (List Event)) → Stops j
             → Marking j (λ es p. some (blocks (moment (o .day) (o .minute)) (o .hours) p) es) before mid s
             → (k : Attempt (List Event)) → Marking k (λ es p. namedBySpecial (take (r .list .count) (r .list .entries)) p 1 es) mid after t
             → Marking (next j (λ es. next k (λ fs. got (blocked (moment (o .day) (o .minute)) (o .hours) es (take (r .list .count) (r .list .entries)) fs)))) (λ b. b) before after t
-        go (stopped x) never first k second = absurd (never x refl (sym (ap (λ (y : Refusal). y .number) (first .answer)) ∙ fine))
-        go (got es) never first (stopped x) second =
+        go (stopped x) told first k second = absurd (told .some (sym (ap (λ (y : Refusal). y .number) (first .answer)) ∙ fine))
+        go (got es) told first (stopped x) second =
             record { answer = second .answer; long = second .long ∙ first .long; marks = λ b same. absurd (apart same) }
-        go (got es) never first (got fs) second =
+        go (got es) told first (got fs) second =
             record {
               answer = second .answer;
               long = second .long ∙ first .long;

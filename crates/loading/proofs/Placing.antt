@@ -14,7 +14,7 @@ use Rattle.lists.specs.declared.list.Entry.{Entry}
 use Rattle.loading.specs.inner.Marks.{marked, Marking}
 use Rattle.loading.specs.Place.{free, erasable, lowestFree, within, firstErasable, orElse, counterPlace, place}
 use Rattle.loading.proofs.Counted.{upto}
-use Rattle.loading.proofs.Told.{Never, no-refusal}
+use Rattle.loading.proofs.Told.{Stops, no-refusal}
 
 -- Only the blocking of the card's own pointers counts.
 module _ (b b' : ℕ → Bool) (n : ℕ) (same : (p : ℕ) → p ≤ n → b p ≡ b' p) where
@@ -106,7 +106,7 @@ placed-free-or-erasable blocked n c counter es h = go counter
     go false = or-named blocked n (either blocked n es (n - c) (suc c) (omega arith)) within-card
 
 -- Over fresh marks, reading and marking tells what is blocked, as far as the rule asks.
-pub place-marked : {attempt : Attempt (ℕ → Bool)} {marks : List Bool} {r : Refusal} → Never 0 attempt
+pub place-marked : {attempt : Attempt (ℕ → Bool)} {marks : List Bool} {r : Refusal} → Stops attempt
     → Marking attempt (λ b. b) (replicate 9 false) marks r → r .number ≡ 0
     → (blocked : ℕ → Bool) × (attempt ≡ got blocked)
     × ((n c : ℕ) (counter : Bool) (es : List Entry) → n ≤ 8 → c ≤ n → place (marked marks) n c counter es ≡ place blocked n c counter es)

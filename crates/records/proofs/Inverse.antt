@@ -1,20 +1,20 @@
 -- Typed values and the slots of their table: where each is a view of the other, the round trips of the rows are round trips of
 -- the values and the bytes.
 use Prim.Native.Nat.{ℕ, zero, suc, _+_, _*_, _^_, _≤_, _<_}
-use mathlib.Core.List.{List, []}
+use mathlib.Core.List.{List}
 use mathlib.Core.Bool.{Bool, true, false}
 use mathlib.Core.Path.{_≡_, refl, sym, ap, _∙_}
 use native.Mathlib.Omega.{arith}
 use lib.ListN.{length, getD, drop, drop-of-length-le}
 use lib.Seq.{drop-cons}
-use Rattle.bits.specs.Bits.{cut, spread, leading}
+use Rattle.bits.specs.Bits.{cut, spread}
 use Rattle.bits.proofs.Cutting.{length-cut, length-spread, spread-cut, cut-spread}
 use lib.Dec.{eqb}
 use borrow.Author.Tests.{eqb-true, eq-eqb}
 use Rattle.rows.specs.Row.{Row, pick}
-use Rattle.rows.specs.Walk.{Outcome, done, refused, andThen, walk, boxesAt, ending, read, write, slots}
-use Rattle.rows.proofs.Walked.{never, walk-refused}
-use Rattle.rows.proofs.RoundTrip.{read-write, write-read, write-length, write-refused}
+use Rattle.rows.specs.Walk.{Outcome, done, refused, read, write, slots}
+use Rattle.rows.proofs.RoundTrip.{read-write, write-read, write-length}
+use Rattle.rows.proofs.Refusing.{write-refused}
 use Rattle.records.specs.Answer.{Written, refusal, accepted, denied, written, answered, readRecord, writeRecord, from, named}
 use Rattle.records.specs.declared.Refusal.{Refusal}
 
@@ -60,19 +60,6 @@ module _ (rows : List Row) (room : ℕ) where
           let bits : spread 8 after ≡ bs = rw (← bytes) (spread-cut 8 (length before) bs long) in
           (end, rw bits (write-read rows room vals sized e), rw (← bytes) (length-cut 8 8 (length before) bs))
       go (refused n at i) e h = absurd (write-refused rows room vals e (ap (λ (w : Written). w .answer .number) h))
-
--- A refusal of a reading has a number that is not zero.
-pub read-refused : (rows : List Row) (bs : List Bool) {n at i : ℕ} → read rows bs ≡ refused n at i → n ≡ 0 → ⊥
-unfolding read ending
-read-refused rows bs {n} {at} {i} h z = go (walk (length bs) (boxesAt bs) rows 0 [] 0) refl h
-  where
-    ends : (b : Bool) (vals : List ℕ) (end place : ℕ) → pick b (done vals end) (refused 5 place 0) ≡ refused n at i → ⊥
-    ends true vals end place e = never (sym e)
-    ends false vals end place e = let five : _≡_ {A = ℕ} 5 n = cc in omega arith
-
-    go : (o : Outcome (List ℕ)) → walk (length bs) (boxesAt bs) rows 0 [] 0 ≡ o → andThen o (ending bs) ≡ refused n at i → ⊥
-    go (done vals end) e f = ends (eqb (end + leading (drop end bs)) (length bs)) vals end (end + leading (drop end bs)) f
-    go (refused m p k) e f = let same : m ≡ n = cc in walk-refused (length bs) (boxesAt bs) rows 0 [] 0 e (same ∙ z)
 
 module _ {A : Type 0} {rows : List Row} {room : ℕ} {numbersOf : A → List ℕ} {valueOf : List ℕ → A} (view : View rows room numbersOf valueOf) where
   -- What was read, written onto as many bytes, is the same bytes.

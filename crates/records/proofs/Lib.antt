@@ -1,3 +1,4 @@
 pub mod Answering
 pub mod Inverse
+pub mod Coming
 pub mod Telling

@@ -10,5 +10,5 @@ pub mod Running
 pub mod Tables
 pub mod Wide
 pub mod Putting
-pub mod Numbers
+pub mod Refusing
 pub mod Sound

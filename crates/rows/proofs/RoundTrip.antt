@@ -12,7 +12,7 @@ use Rattle.bits.specs.Bits.{zeros, leading}
 use Rattle.rows.specs.Row.{Row, pick}
 use Rattle.rows.specs.Walk.{Outcome, done, refused, andThen, total, walk, numbers, boxesAt, slotsOf, ending, read, frameOn, frame, laidOn, write, slots}
 use Rattle.rows.proofs.Boxes.{length-numbers, laid-numbers, length-laid, numbers-laid, leading-zeros, all-leading}
-use Rattle.rows.proofs.Walked.{never, length-frame, Held, walk-held, walk-slots, walked, walk-refused}
+use Rattle.rows.proofs.Walked.{never, length-frame, Held, walk-held, walk-slots, walked}
 
 -- Two steps that succeed, each by itself.
 and-then-done : {A B : Type 0} {b : B} {end : ℕ} (o : Outcome A) (next : A → ℕ → Outcome B) → andThen o next ≡ done b end
@@ -130,14 +130,3 @@ write-read rows room vals {bs} {end} n h =
     let out : List Bool = laidOn [] (frameOn rows [] vals) vals in
     let margin : drop end bs ≡ zeros (length bs - end) = rw (w .sized, w .laid) (drop-at out (zeros (room - end)) end (w .fills)) in
     rw (walk-slots (length bs) bs rows 0 [] 0 (w .held), w .sized, w .steps) (ends-well bs vals end (omega arith) margin)
-
--- A refusal of a writing has a number that is not zero.
-pub write-refused : (rows : List Row) (room : ℕ) (vals : List ℕ) {n at i : ℕ} → write rows room vals ≡ refused n at i → n ≡ 0 → ⊥
-unfolding write
-write-refused rows room vals {n} {at} {i} h z = go (walk room (slotsOf vals) rows 0 [] 0) refl h
-  where
-    go : (o : Outcome (List ℕ)) → walk room (slotsOf vals) rows 0 [] 0 ≡ o
-        → andThen o (λ all end. done (laidOn [] (frame rows vals) vals ++ zeros (room - end)) end) ≡ refused n at i
-        → ⊥
-    go (done all end) e h = never (sym h)
-    go (refused m p j) e h = let same : m ≡ n = cc in walk-refused room (slotsOf vals) rows 0 [] 0 e (same ∙ z)

@@ -5,7 +5,7 @@ use mathlib.Core.Bool.{Bool, true, false}
 use mathlib.Core.Path.{_≡_, refl, sym, ap, _∙_}
 use native.Mathlib.Omega.{arith}
 use lib.Dec.{eqb, ltb}
-use borrow.Author.Tests.{ltb-false, le-ltb, eqb-false}
+use borrow.Author.Tests.{ltb-false, le-ltb}
 use lib.ListN.{length, take, drop, length-append, length-drop, take-append-drop}
 use lib.Seq.{drop-append-seam, drop-drop, take-at, drop-at}
 use Rattle.rows.specs.Row.{Row, pick, told, broken}
@@ -184,21 +184,3 @@ module _ (room : ℕ) where
           take-at ws frame k (length-boxes r seen),
           drop-at ws frame k (length-boxes r seen),
         )
-
--- A refusal of a walk has a number that is not zero.
-pub walk-refused : (room : ℕ) (from : Source) (rs : List Row) (i : ℕ) (seen : List ℕ) (at : ℕ) {n p j : ℕ}
-    → walk room from rs i seen at ≡ refused n p j → n ≡ 0 → ⊥
-walk-refused room from [] i seen at h z = never (sym h)
-walk-refused room from (r ∷ rs) i seen at {n} {p} {j} h z =
-    go (eqb (faultAt room r seen at vs) 0) refl (sym (walk-row room from r rs i seen at vs refl) ∙ h)
-    (walk-refused room from rs (suc i) (seen ++ vs) (at + total (boxesOf r seen)))
-  where
-    vs : List ℕ
-    vs = from at (length seen) (boxesOf r seen)
-
-    go : (t : Bool) → eqb (faultAt room r seen at vs) 0 ≡ t
-        → pick t (walk room from rs (suc i) (seen ++ vs) (at + total (boxesOf r seen))) (refused (faultAt room r seen at vs) at i) ≡ refused n p j
-        → (walk room from rs (suc i) (seen ++ vs) (at + total (boxesOf r seen)) ≡ refused n p j → n ≡ 0 → ⊥)
-        → ⊥
-    go true e h rest = rest h z
-    go false e h rest = let same : faultAt room r seen at vs ≡ n = cc in eqb-false _ _ e (same ∙ z)

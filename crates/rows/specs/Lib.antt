@@ -1,5 +1,6 @@
 pub mod Row
 pub mod Walk
+pub mod Refusing
 pub mod Raise
 pub mod Change
 pub mod table

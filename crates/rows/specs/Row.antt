@@ -2,7 +2,7 @@
 -- and its rule. The numbers of a table are a flat run of slots, one a box, zero where the field is absent.
 use Prim.Native.Nat.{ℕ, _/_, _^_}
 use mathlib.Core.List.{List, [], _∷_}
-use mathlib.Core.Bool.{Bool, true, false}
+use mathlib.Core.Bool.{Bool, true, false, _||_}
 use lib.Dec.{eqb, ltb}
 use lib.ListN.{getD, replicate}
 use Rattle.bits.specs.Bits.{odd}
@@ -42,6 +42,11 @@ minute c = boxMost 1439 11 c
 abbrev pub pick : {A : Type 0} → Bool → A → A → A
 pick true a b = a
 pick false a b = b
+
+-- Whether a number is one of some.
+abbrev pub among : ℕ → List ℕ → Bool
+among n [] = false
+among n (m ∷ ms) = eqb m n || among n ms
 
 -- A condition at the numbers so far.
 abbrev pub told : Cond → List ℕ → When

@@ -1,8 +1,9 @@
 -- A change of priority alters the four bits of that one priority, and nothing else.
 use Prim.Native.Nat.{ℕ, _≤_}
 use mathlib.Core.Bool.{Bool, true, false, _||_}
-use mathlib.Core.List.{List}
-use mathlib.Core.Path.{_≡_, refl, _∙_}
+use mathlib.Core.List.{List, [], _∷_}
+use mathlib.Core.Path.{_≡_, refl, sym, ap, _∙_}
+use mathlib.Core.Logic.{_⊎_, inl, inr, ⊎-elim}
 use native.Mathlib.Omega.{arith}
 use lib.Dec.{eqb, ltb}
 use lib.ListN.{length}
@@ -11,17 +12,19 @@ use Rattle.bits.specs.Bits.{cut, spread}
 use Rattle.bits.proofs.Cutting.{spread-cut}
 use Rattle.rows.specs.Row.{pick}
 use Rattle.rows.specs.Change.{withBox}
-use Rattle.records.specs.Answer.{accepted, denied}
-use Rattle.lists.specs.List.{gotList, listRead, listWritten}
+use Rattle.rows.proofs.Refusing.{Refusing}
+use Rattle.records.specs.Answer.{Written, refusal, accepted, denied}
+use Rattle.records.specs.declared.Refusal.{Refusal}
+use Rattle.records.proofs.Coming.{ComesTo, fine, faulty, unwritten, written-kept}
+use Rattle.lists.specs.List.{gotList, noList, listRead, listWritten}
 use Rattle.lists.specs.Entries.{attempted, withPriority, priorityPlace}
 use Rattle.lists.specs.declared.list.ContractList.{ContractList}
 use Rattle.lists.specs.declared.list.ListRead.{ListRead}
-use Rattle.lists.proofs.list.Laws.{list-write-read}
+use Rattle.lists.proofs.list.Laws.{list-write-read, list-comes}
 use Rattle.lists.proofs.Entries.{length-recoded}
 use Rattle.lists.proofs.Kept.{list-kept, list-was-read}
 use Rattle.lists.proofs.Recoding.{list-recoded}
 use Rattle.selection.specs.Selection.{changing, changed, settled}
-use Rattle.selection.proofs.Refusals.{Told, reads, refuses, list-told}
 
 -- A change that may be made: the list reads, has the position, and the code is a priority.
 pub record MayChange (before : List ℕ) (n position code : ℕ) : Type 0 where
@@ -58,27 +61,51 @@ bits-changed {before} {n} {position} {code} m =
     rw (four-bits m)
     (spread-cut 8 (length before) _ (list-recoded n before (m .l) position code (m .reading) (m .low) (m .high) (m .fits) (m .defined) .1))
 
+-- A change may be made, or is refused with one of these numbers and changes nothing.
+may-change : (before : List ℕ) (n position code : ℕ)
+    → MayChange before n position code
+    ⊎ ((r : Refusal) × Refusing (r .number) (1 ∷ 11 ∷ 2 ∷ 4 ∷ 5 ∷ 6 ∷ []) × (changing before n position code ≡ unwritten before r))
+unfolding changing
+may-change before n position code =
+    go (eqb (length before) 29) (eqb position 0) refl (eqb code 13) refl (ltb 15 code) refl refl (list-comes n before)
+  where
+    Judged : Written → Type 0
+    Judged w = MayChange before n position code ⊎ ((r : Refusal) × Refusing (r .number) (1 ∷ 11 ∷ 2 ∷ 4 ∷ 5 ∷ 6 ∷ []) × (w ≡ unwritten before r))
+
+    eleven : Judged (denied 11 0 before)
+    eleven = inr (refusal 11 0, record { some = λ z. omega arith; listed = refl }, refl)
+
+    counted : (l : ContractList) → listRead n before ≡ gotList l → eqb position 0 ≡ false → eqb code 13 ≡ false → ltb 15 code ≡ false
+        → (t : Bool) → ltb (l .count) position ≡ t
+        → Judged (pick t (denied 11 0 before) (listWritten n (withPriority position code l) before))
+    counted l same b c d true e = eleven
+    counted l same b c d false e =
+        let other : position ≡ 0 → ⊥ = eqb-false _ _ b in
+        inl (record { l = l; reading = same; low = omega arith; high = ltb-false _ _ e; fits = ltb-false _ _ d; defined = eqb-false _ _ c })
+
+    go : (a b : Bool) → eqb position 0 ≡ b → (c : Bool) → eqb code 13 ≡ c → (d : Bool) → ltb 15 code ≡ d
+        → {r : ListRead} → listRead n before ≡ r → ComesTo gotList noList (1 ∷ 11 ∷ 2 ∷ 4 ∷ 5 ∷ 6 ∷ []) r
+        → Judged (pick a (pick (b || c || d) (denied 11 0 before) (settled before (changed n position code before) (attempted r))) (denied 1 0 before))
+    go false b eb c ec d ed is told = inr (refusal 1 0, record { some = λ z. omega arith; listed = refl }, refl)
+    go true true eb c ec d ed is told = eleven
+    go true false eb true ec d ed is told = eleven
+    go true false eb false ec true ed is told = eleven
+    go true false eb false ec false ed is (fine l) = counted l is eb ec ed (ltb (l .count) position) refl
+    go true false eb false ec false ed is (faulty r why) = inr (r, why, rw (ne-eqb _ _ (why .some)))
+
 -- Every change that is accepted is such a one.
 pub accepted-change : (before : List ℕ) (n position code : ℕ) → changing before n position code .answer .number ≡ 0 → MayChange before n position code
-unfolding changing
-accepted-change before n position code =
-    go (eqb (length before) 29) (eqb position 0) refl (eqb code 13) refl (ltb 15 code) refl (listRead n before) refl (list-told n before)
-  where
-    counted : (l : ContractList) → listRead n before ≡ gotList l → (eqb position 0 ≡ false) → (eqb code 13 ≡ false) → (ltb 15 code ≡ false)
-        → (t : Bool) → ltb (l .count) position ≡ t
-        → pick t (denied 11 0 before) (listWritten n (withPriority position code l) before) .answer .number ≡ 0
-        → MayChange before n position code
-    counted l same b c d true e h = absurd (omega arith)
-    counted l same b c d false e h =
-        let other : position ≡ 0 → ⊥ = eqb-false _ _ b in
-        record { l = l; reading = same; low = omega arith; high = ltb-false _ _ e; fits = ltb-false _ _ d; defined = eqb-false _ _ c }
+accepted-change before n position code zero =
+    ⊎-elim (λ m. m) (λ x. absurd (x .1 .some (sym (ap (λ (w : Written). w .answer .number) (x .2)) ∙ zero))) (may-change before n position code)
 
-    go : (a b : Bool) → eqb position 0 ≡ b → (c : Bool) → eqb code 13 ≡ c → (d : Bool) → ltb 15 code ≡ d → (r : ListRead) → listRead n before ≡ r → Told r
-        → pick a (pick (b || c || d) (denied 11 0 before) (settled before (changed n position code before) (attempted r))) (denied 1 0 before) .answer .number ≡ 0
-        → MayChange before n position code
-    go false b eb c ec d ed r er told h = absurd (omega arith)
-    go true true eb c ec d ed r er told h = absurd (omega arith)
-    go true false eb true ec d ed r er told h = absurd (omega arith)
-    go true false eb false ec true ed r er told h = absurd (omega arith)
-    go true false eb false ec false ed r er (reads l same) h = counted l (er ∙ same) eb ec ed (ltb (l .count) position) refl (rw same at h)
-    go true false eb false ec false ed r er (refuses bad eight) h = absurd (bad (rw (ne-eqb _ _ bad) at h))
+-- The refusals of a change.
+pub change-comes : (before : List ℕ) (n position code : ℕ)
+    → ComesTo accepted (unwritten before) (1 ∷ 11 ∷ 2 ∷ 4 ∷ 5 ∷ 6 ∷ []) (changing before n position code)
+change-comes before n position code =
+    ⊎-elim (λ (m : MayChange before n position code). rw (four-bits m) (fine _)) (λ x. rw (x .2) (faulty (x .0) (x .1)))
+    (may-change before n position code)
+
+-- Refused, the bytes are as they were.
+pub refused-unchanged : (before : List ℕ) (n position code : ℕ) → (changing before n position code .answer .number ≡ 0 → ⊥)
+    → changing before n position code .bytes ≡ before
+refused-unchanged before n position code = written-kept before (change-comes before n position code)

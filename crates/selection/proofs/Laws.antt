@@ -1,30 +1,29 @@
--- Which contract is chosen, and when none is; the part that is handed on; a change of priority that is refused.
+-- Which contract is chosen, and when none is; the part that is handed on.
 use Prim.Native.Nat.{ℕ, zero, suc, _+_, _-_, _*_, _/_, _≤_, _<_}
-use mathlib.Core.Bool.{Bool, true, false, _&&_, _||_, true≢false}
+use mathlib.Core.Bool.{Bool, true, false, _&&_, true≢false}
 use mathlib.Core.List.{List, [], _∷_, _++_, map}
 use mathlib.Core.Path.{_≡_, refl, sym, ap, _∙_}
 use native.Mathlib.Omega.{arith}
-use lib.Dec.{eqb, ltb, leb}
+use lib.Dec.{eqb, leb}
 use lib.ListN.{length, drop, length-drop}
 use lib.Seq.{length-take-le}
 use borrow.Author.Tests.{eqb-true, eq-eqb, ne-eqb, leb-true, le-leb}
-use Rattle.rows.specs.Row.{pick}
-use Rattle.rows.specs.Walk.{Outcome, done, refused, andThen, write}
-use Rattle.rows.specs.table.BestContracts.{contractList}
-use Rattle.records.specs.Answer.{Written, refusal, denied, written}
-use Rattle.records.specs.Order.{Attempt, got, stopped, next, needs, recordAt}
-use Rattle.lists.specs.List.{numbersOf, outside, listFault, gotList, listRead}
-use Rattle.lists.specs.Listing.{obeying, writeList}
-use Rattle.lists.specs.Entries.{counted, attempted, withPriority}
+use Rattle.rows.proofs.Refusing.{Refusing}
+use Rattle.records.specs.Answer.{refusal}
+use Rattle.records.specs.Order.{Attempt, next, needs, recordAt}
+use Rattle.records.specs.declared.Refusal.{Refusal}
+use Rattle.records.proofs.Coming.{ComesTo, fine, faulty, comes-within, stops}
+use Rattle.lists.specs.List.{gotList, noList, listRead}
+use Rattle.lists.specs.Entries.{counted, attempted}
 use Rattle.lists.specs.declared.list.ContractList.{ContractList}
 use Rattle.lists.specs.declared.list.Entry.{Entry}
 use Rattle.lists.specs.declared.list.ListRead.{ListRead}
 use Rattle.lists.proofs.Kept.{Apart, list-kept}
+use Rattle.lists.proofs.list.Laws.{list-comes}
 use Rattle.selection.specs.Eligible.{eligible, nobody, chosenAt}
-use Rattle.selection.specs.Selection.{unselected, answer, choice, chosen, selecting, selected, partOf, changed, settled, changing}
+use Rattle.selection.specs.Selection.{unselected, answer, choice, chosen, selecting, selected, partOf}
 use Rattle.selection.specs.declared.Selected.{Selected}
 use Rattle.selection.proofs.Least.{nth, Came, kept, taken, choice-came}
-use Rattle.selection.proofs.Refusals.{Told, reads, refuses, list-told}
 
 -- The counted entry at a position, from 1.
 abbrev pub entryAt : ContractList → ℕ → Entry
@@ -48,14 +47,14 @@ module _ (list file : List ℕ) (n day operator : ℕ) where
 
   -- Another refusal comes first, or all is in order, the list reads, and its entries decide.
   data Decided (a : Selected) : Type 0 where
-    sooner : (a .refusal .number ≡ 0 → ⊥) → (a .refusal .number ≡ 8 → ⊥) → Decided a
+    sooner : (r : Refusal) → Refusing (r .number) (1 ∷ 11 ∷ 2 ∷ 4 ∷ 5 ∷ 6 ∷ []) → a ≡ unselected r → Decided a
     later : InOrder → (l : ContractList) → listRead n list ≡ gotList l → a ≡ answer (chosen (choice day operator file l)) → Decided a
 
   decided : Decided s
   unfolding selected selecting
   decided =
       go (eqb (length list) 29) (eqb (length file) (29 * n)) (leb day 16383) (leb operator 255) refl refl refl refl
-      (listRead n list) refl (list-told n list)
+      refl (list-comes n list)
     where
       rest : Attempt ContractList → Attempt Selected
       rest a = next a (λ l. chosen (choice day operator file l))
@@ -63,20 +62,20 @@ module _ (list file : List ℕ) (n day operator : ℕ) where
       out : (a b c d : Bool) → ListRead → Selected
       out a b c d r = answer (needs (a && b) 1 (needs (c && d) 11 (rest (attempted r))))
 
-      unread : (r : ListRead) (t : Bool) → eqb (r .refusal .number) 0 ≡ t → (r .refusal .number ≡ 0 → ⊥) → (r .refusal .number ≡ 8 → ⊥)
-          → Decided (answer (rest (pick t (got (r .list)) (stopped (r .refusal)))))
-      unread r true e bad other = absurd (bad (eqb-true _ _ e))
-      unread r false e bad other = sooner bad other
+      short : Refusing 1 (1 ∷ 11 ∷ 2 ∷ 4 ∷ 5 ∷ 6 ∷ [])
+      short = record { some = λ z. omega arith; listed = refl }
+
+      beyond : Refusing 11 (1 ∷ 11 ∷ 2 ∷ 4 ∷ 5 ∷ 6 ∷ [])
+      beyond = record { some = λ z. omega arith; listed = refl }
 
       go : (a b c d : Bool) → eqb (length list) 29 ≡ a → eqb (length file) (29 * n) ≡ b → leb day 16383 ≡ c → leb operator 255 ≡ d
-          → (r : ListRead) → listRead n list ≡ r → Told r → Decided (out a b c d r)
-      go true true true true e f g h r is (reads l same) =
-          later (eqb-true _ _ e, eqb-true _ _ f, leb-true _ _ g, leb-true _ _ h) l (is ∙ same) (ap (out true true true true) same)
-      go true true true true e f g h r is (refuses bad other) = unread r (eqb (r .refusal .number) 0) refl bad other
-      go true true true false e f g h r is told = sooner (λ z. omega arith) (λ z. omega arith)
-      go true true false d e f g h r is told = sooner (λ z. omega arith) (λ z. omega arith)
-      go true false c d e f g h r is told = sooner (λ z. omega arith) (λ z. omega arith)
-      go false b c d e f g h r is told = sooner (λ z. omega arith) (λ z. omega arith)
+          → {r : ListRead} → listRead n list ≡ r → ComesTo gotList noList (1 ∷ 11 ∷ 2 ∷ 4 ∷ 5 ∷ 6 ∷ []) r → Decided (out a b c d r)
+      go true true true true e f g h is (fine l) = later (eqb-true _ _ e, eqb-true _ _ f, leb-true _ _ g, leb-true _ _ h) l is refl
+      go true true true true e f g h is (faulty r why) = sooner r why (rw (ne-eqb _ _ (why .some)))
+      go true true true false e f g h is told = sooner (refusal 11 0) beyond refl
+      go true true false d e f g h is told = sooner (refusal 11 0) beyond refl
+      go true false c d e f g h is told = sooner (refusal 1 0) short refl
+      go false b c d e f g h is told = sooner (refusal 1 0) short refl
 
   came : (l : ContractList) → Came (eligible day operator file) 1 nobody (counted l) (choice day operator file l)
   came l = choice-came (eligible day operator file) 1 nobody (counted l) (omega arith)
@@ -114,7 +113,7 @@ module _ (list file : List ℕ) (n day operator : ℕ) where
           → Chosen
       from order l read is (kept same over) =
           absurd (omega (arith, right, ap (λ (x : Selected). x .refusal .number) (none (choice day operator file l) is same)))
-      from order l read is (taken j h same fine under least) =
+      from order l read is (taken j h same fit under least) =
           let this : s ≡ chosenAt (1 + j) (nth (counted l) j) = one j (nth (counted l) j) (choice day operator file l) is same in
           let position : s .position ≡ 1 + j = ap (λ (x : Selected). x .position) this in
           let priority : s .priority ≡ nth (counted l) j .priority = ap (λ (x : Selected). x .priority) this in
@@ -125,7 +124,7 @@ module _ (list file : List ℕ) (n day operator : ℕ) where
             reads = read;
             low = omega arith;
             high = omega arith;
-            fit = rw index fine;
+            fit = rw index fit;
             pointer = rw index (ap (λ (x : Selected). x .pointer) this);
             priority = rw index priority;
             least =
@@ -135,7 +134,7 @@ module _ (list file : List ℕ) (n day operator : ℕ) where
           }
 
       go : Decided s → Chosen
-      go (sooner bad other) = absurd (bad right)
+      go (sooner r why same) = absurd (why .some (sym (ap (λ (x : Selected). x .refusal .number) same) ∙ right))
       go (later order l read is) = from order l read is (came l)
 
   -- The list reads, all being in order, and has no eligible entry.
@@ -158,11 +157,13 @@ module _ (list file : List ℕ) (n day operator : ℕ) where
           → (k : ℕ) → 1 ≤ k → k ≤ length (counted l) → eligible day operator file (entryAt l k) ≡ false
       from l is (kept same over) k low high =
           not-fit (eligible day operator file (entryAt l k)) (λ fit. over (k - 1) (omega arith) fit .0 refl)
-      from l is (taken j h same fine under least) k low high =
+      from l is (taken j h same fit under least) k low high =
           absurd (omega (arith, eight, ap (λ (x : Selected). x .refusal .number) (one j (nth (counted l) j) (choice day operator file l) is same)))
 
       go : Decided s → NoneEligible
-      go (sooner bad other) = absurd (other eight)
+      go (sooner r why same) =
+          let own : r .number ≡ 8 = sym (ap (λ (x : Selected). x .refusal .number) same) ∙ eight in
+          absurd (true≢false (sym (rw own at (why .listed))))
       go (later order l read is) = record { order = order; l = l; reads = read; nobody = from l is (came l) }
 
   -- and then it always is.
@@ -178,10 +179,10 @@ module _ (list file : List ℕ) (n day operator : ℕ) where
       nothing : Came (eligible day operator file) 1 nobody (counted (given .l)) (choice day operator file (given .l))
           → choice day operator file (given .l) ≡ nobody
       nothing (kept same over) = same
-      nothing (taken k h same fine under least) =
+      nothing (taken k h same fit under least) =
           let back : suc k - 1 ≡ k = omega arith in
           let unfit : eligible day operator file (nth (counted (given .l)) k) ≡ false = rw back at (given .nobody (suc k) (omega arith) (omega arith)) in
-          absurd (true≢false (sym fine ∙ unfit))
+          absurd (true≢false (sym fit ∙ unfit))
 
   -- Accepted, the part that is handed on is the record at the chosen pointer, all 29 bytes.
   pub part-is-record : s .refusal .number ≡ 0 → (partOf file s ≡ recordAt file (s .pointer)) × (length (partOf file s) ≡ 29)
@@ -201,27 +202,17 @@ module _ (list file : List ℕ) (n day operator : ℕ) where
   unfolding partOf
   no-part bad = rw (ne-eqb _ _ bad)
 
--- A change of priority that is refused leaves the bytes as they were.
-pub refused-unchanged : (before : List ℕ) (n position code : ℕ) → (changing before n position code .answer .number ≡ 0 → ⊥)
-    → changing before n position code .bytes ≡ before
-unfolding changing writeList
-refused-unchanged before n position code =
-    go (eqb (length before) 29) (eqb position 0 || eqb code 13 || ltb 15 code) (attempted (listRead n before))
-  where
-    Unchanged : Written → Type 0
-    Unchanged w = (w .answer .number ≡ 0 → ⊥) → w .bytes ≡ before
+  -- The refusals of a selection.
+  pub select-comes : ComesTo (λ (x : ℕ × Entry). chosenAt (x .0) (x .1)) unselected (1 ∷ 11 ∷ 2 ∷ 4 ∷ 5 ∷ 6 ∷ 8 ∷ []) s
+  select-comes = go decided
+    where
+      from : (l : ContractList) → s ≡ answer (chosen (choice day operator file l))
+          → Came (eligible day operator file) 1 nobody (counted l) (choice day operator file l)
+          → ComesTo (λ (x : ℕ × Entry). chosenAt (x .0) (x .1)) unselected (1 ∷ 11 ∷ 2 ∷ 4 ∷ 5 ∷ 6 ∷ 8 ∷ []) s
+      from l is (kept same over) = rw (none (choice day operator file l) is same) (stops (refusal 8 0) refl refl)
+      from l is (taken j h same fit under least) =
+          rw (one j (nth (counted l) j) (choice day operator file l) is same) (fine (1 + j, nth (counted l) j))
 
-    wrote : (a b c : Bool) (o : Outcome (List Bool))
-        → Unchanged (pick a (denied 11 0 before) (pick b (pick c (denied 11 0 before) (written before o)) (denied 1 0 before)))
-    wrote true b c o h = refl
-    wrote false false c o h = refl
-    wrote false true true o h = refl
-    wrote false true false (done bs end) h = absurd (h refl)
-    wrote false true false (refused m p i) h = refl
-
-    go : (a b : Bool) (r : Attempt ContractList)
-        → Unchanged (pick a (pick b (denied 11 0 before) (settled before (changed n position code before) r)) (denied 1 0 before))
-    go false b r h = refl
-    go true true r h = refl
-    go true false (stopped r) h = refl
-    go true false (got l) h = wrote (ltb (l .count) position) (eqb (length before) 29) (outside n) (andThen (write (contractList n) 232 (numbersOf (withPriority position code l))) (λ bs end. obeying (listFault n (numbersOf (withPriority position code l))) bs end)) h
+      go : Decided s → ComesTo (λ (x : ℕ × Entry). chosenAt (x .0) (x .1)) unselected (1 ∷ 11 ∷ 2 ∷ 4 ∷ 5 ∷ 6 ∷ 8 ∷ []) s
+      go (sooner r why same) = rw same (comes-within (faulty r why) refl)
+      go (later order l read is) = from l is (came l)

@@ -1,6 +1,6 @@
 -- The special event list: what was read, written onto any record, is the same bytes; what was written, read again, is the same value.
 use Prim.Native.Nat.{ℕ, _^_, _<_}
-use mathlib.Core.List.{List, []}
+use mathlib.Core.List.{List, [], _∷_}
 use mathlib.Core.Path.{_≡_, refl, ap}
 use lib.ListN.{length, getD}
 use lib.Dec.{ltb}
@@ -11,7 +11,9 @@ use Rattle.lists.specs.declared.special.SpecialEntry.{SpecialEntry}
 use Rattle.lists.specs.declared.special.SpecialList.{SpecialList}
 use Rattle.lists.specs.declared.special.SpecialRead.{SpecialRead}
 use Rattle.records.proofs.Inverse.{from-all, named-all}
+use Rattle.records.proofs.Coming.{ComesTo, unwritten, comes-within}
 use Rattle.lists.proofs.Relisting.{listing-read-write, listing-write-read}
+use Rattle.lists.proofs.Coming.{listing-comes, listing-write-comes}
 
 -- A list of four entries is what its numbers make.
 pub special-of-numbers : (l : SpecialList) → length (l .entries) ≡ 4 → specialOf (numbersOf l) ≡ l
@@ -36,3 +38,12 @@ unfolding specialList
 special-write-read s before after l four h =
     listing-write-read gotSpecial noSpecial same (λ r l e. ap (λ (x : SpecialRead). x .refusal .number) e) (specialFault s) (ltb 4 s) specialList numbersOf specialOf
     before after l refl (special-of-numbers l four) h
+
+-- The refusals of a reading and of a writing.
+pub special-comes : (s : ℕ) (bytes : List ℕ) → ComesTo gotSpecial noSpecial (1 ∷ 11 ∷ 4 ∷ 5 ∷ 6 ∷ []) (specialRead s bytes)
+unfolding specialList
+special-comes s bytes = comes-within (listing-comes specialOf (specialFault s) (ltb 4 s) specialList bytes) refl
+
+pub special-write-comes : (s : ℕ) (l : SpecialList) (before : List ℕ) → ComesTo accepted (unwritten before) (1 ∷ 11 ∷ 7 ∷ 4 ∷ 6 ∷ []) (specialWritten s l before)
+unfolding specialList
+special-write-comes s l before = comes-within (listing-write-comes (specialFault s) (ltb 4 s) specialList (numbersOf l) before) refl

@@ -1,6 +1,6 @@
 -- Environment: what was read, written onto any record, is the same bytes; what was written, read again, is the same value.
 use Prim.Native.Nat.{ℕ, _^_, _<_}
-use mathlib.Core.List.{List}
+use mathlib.Core.List.{List, [], _∷_}
 use mathlib.Core.Path.{_≡_, refl}
 use native.Mathlib.Omega.{arith}
 use lib.ListN.{length, getD}
@@ -12,6 +12,7 @@ use Rattle.records.specs.declared.Refusal.{Refusal}
 use Rattle.records.specs.declared.environment.Environment.{Environment}
 use Rattle.records.specs.declared.environment.EnvironmentRead.the-variants.{Read, Refused}
 use Rattle.records.proofs.Inverse.{View, from-all, record-read-write, record-write-read}
+use Rattle.records.proofs.Coming.{ComesTo, unwritten, comes-within, record-comes, record-write-comes}
 
 view : View environment 232 numbersOf environmentOf
 unfolding environment
@@ -32,3 +33,12 @@ pub environment-write-read : (before after : List ℕ) (e : Environment)
     → environmentWritten before e ≡ accepted after
     → environmentRead after ≡ Read e
 environment-write-read before after e h = record-write-read Read Refused same apart view before after e h
+
+-- The refusals of a reading and of a writing.
+pub environment-comes : (bytes : List ℕ) → ComesTo Read Refused (1 ∷ 3 ∷ 5 ∷ []) (environmentRead bytes)
+unfolding environment
+environment-comes bytes = comes-within (record-comes environmentOf environment bytes) refl
+
+pub environment-write-comes : (before : List ℕ) (e : Environment) → ComesTo accepted (unwritten before) (1 ∷ 3 ∷ 7 ∷ []) (environmentWritten before e)
+unfolding environment
+environment-write-comes before e = comes-within (record-write-comes environment (numbersOf e) before) refl

@@ -1,6 +1,6 @@
 -- Event: what was read, written onto any record, is the same bytes; what was written, read again, is the same value.
 use Prim.Native.Nat.{ℕ, _^_, _<_}
-use mathlib.Core.List.{List}
+use mathlib.Core.List.{List, [], _∷_}
 use mathlib.Core.Bool.{Bool}
 use mathlib.Core.Path.{_≡_, refl}
 use native.Mathlib.Omega.{arith}
@@ -17,6 +17,7 @@ use Rattle.records.specs.declared.Refusal.{Refusal}
 use Rattle.records.specs.declared.event.Event.{Event}
 use Rattle.records.specs.declared.event.EventRead.the-variants.{Read, Refused}
 use Rattle.records.proofs.Inverse.{View, from-all, record-read-write, record-write-read}
+use Rattle.records.proofs.Coming.{ComesTo, unwritten, comes-within, record-comes, record-write-comes}
 
 -- A record that was read has no element [17], so that its slot is zero.
 named : (bs : List Bool) {vals : List ℕ} {end : ℕ} → length bs ≡ 232 → read event bs ≡ done vals end → numbersOf (eventOf vals) ≡ vals
@@ -44,3 +45,12 @@ pub event-write-read : (before after : List ℕ) (e : Event)
     → eventWritten before e ≡ accepted after
     → eventRead after ≡ Read e
 event-write-read before after e h = record-write-read Read Refused same apart view before after e h
+
+-- The refusals of a reading and of a writing.
+pub event-comes : (bytes : List ℕ) → ComesTo Read Refused (1 ∷ 2 ∷ 4 ∷ 5 ∷ []) (eventRead bytes)
+unfolding event
+event-comes bytes = comes-within (record-comes eventOf event bytes) refl
+
+pub event-write-comes : (before : List ℕ) (e : Event) → ComesTo accepted (unwritten before) (1 ∷ 2 ∷ 4 ∷ 7 ∷ []) (eventWritten before e)
+unfolding event
+event-write-comes before e = comes-within (record-write-comes event (numbersOf e) before) refl

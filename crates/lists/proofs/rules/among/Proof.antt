@@ -4,7 +4,7 @@ use lib.ListN.{take, drop}
 use native.Mathlib.Omega.{arith}
 use borrow.Author.Needs.{needs}
 use borrow.Author.Tests.{eq-eqb, ne-eqb}
-use Rattle.lists.specs.Rules.{among}
+use Rattle.rows.specs.Row.{among}
 use Rattle.lists.proofs.Ruling.{among-more, none-at}
 use Rattle.lists.proofs.rules.among.Statement.{statement}
 use Rattle.lists.proofs.rules.among.Tie as tie
