@@ -217,18 +217,24 @@ pub record Accepted (o : Order) (list file : List ℕ) (lent : Lent) (out : Outc
   pub listed : listWritten (o .n) (listing (afterwards (newEntry o (out .answer .pointer)) (counted (all .l)))) list ≡ accepted (out .list)
   pub filed : out .file ≡ placed (out .answer .pointer) (lent .new) file
 
+-- What loading leaves where it is accepted, of a pointer and both buffers; and where it is refused.
+abbrev pub loadedAs : ℕ × List ℕ × List ℕ → Outcome
+loadedAs x = loaded (refusal 0 0) (x .0) (x .1) (x .2)
+
+abbrev pub unloaded : List ℕ → List ℕ → Refusal → Outcome
+unloaded list file r = loaded r 0 list file
+
 module _ (o : Order) (list file : List ℕ) (lent : Lent) where
   abbrev out : Outcome
   out = loading o list file lent
 
   -- The refusals of loading.
-  pub load-comes : ComesTo (λ (x : ℕ × List ℕ × List ℕ). loaded (refusal 0 0) (x .0) (x .1) (x .2)) (λ r. loaded r 0 list file)
-      (1 ∷ 11 ∷ 2 ∷ 3 ∷ 4 ∷ 5 ∷ 6 ∷ 9 ∷ []) out
+  pub load-comes : ComesTo loadedAs (unloaded list file) (1 ∷ 11 ∷ 2 ∷ 3 ∷ 4 ∷ 5 ∷ 6 ∷ 9 ∷ []) out
   unfolding loading
   load-comes = go (finding-ended o list file lent)
     where
       Comes : Outcome → Type 0
-      Comes x = ComesTo (λ (x : ℕ × List ℕ × List ℕ). loaded (refusal 0 0) (x .0) (x .1) (x .2)) (λ r. loaded r 0 list file) (1 ∷ 11 ∷ 2 ∷ 3 ∷ 4 ∷ 5 ∷ 6 ∷ 9 ∷ []) x
+      Comes x = ComesTo loadedAs (unloaded list file) (1 ∷ 11 ∷ 2 ∷ 3 ∷ 4 ∷ 5 ∷ 6 ∷ 9 ∷ []) x
 
       stores : (p at : ℕ) (w : Written) (after : List ℕ) (fits : Bool) → w .answer ≡ pick fits (refusal 0 0) (refusal 2 at)
           → Comes (bothOrNeither list file p w after)
@@ -245,7 +251,7 @@ module _ (o : Order) (list file : List ℕ) (lent : Lent) where
   pub refused-unchanged : (out .answer .refusal .number ≡ 0 → ⊥) → (out .list ≡ list) × (out .file ≡ file) × (out .answer .pointer ≡ 0)
   refused-unchanged = go load-comes
     where
-      go : {ns : List ℕ} {x : Outcome} → ComesTo (λ (x : ℕ × List ℕ × List ℕ). loaded (refusal 0 0) (x .0) (x .1) (x .2)) (λ r. loaded r 0 list file) ns x
+      go : {ns : List ℕ} {x : Outcome} → ComesTo loadedAs (unloaded list file) ns x
           → (x .answer .refusal .number ≡ 0 → ⊥) → (x .list ≡ list) × (x .file ≡ file) × (x .answer .pointer ≡ 0)
       go (fine x) h = absurd (h refl)
       go (faulty r why) h = (refl, refl, refl)
@@ -255,14 +261,14 @@ module _ (o : Order) (list file : List ℕ) (lent : Lent) where
   unfolding loading
   accepted-loading = go (finding-ended o list file lent)
     where
-      stores : (a : AllRead o list file lent) → (namedBy a ≡ 0 → ⊥) → (w : Written)
-          → listWritten (o .n) (listing (afterwards (newEntry o (namedBy a)) (counted (a .l)))) list ≡ w
+      stores : (a : AllRead o list file lent) → (namedBy a ≡ 0 → ⊥) → (w : Written) → listAfter a ≡ w
           → (t : Bool) → eqb (w .answer .number) 0 ≡ t
           → pick t (loaded (refusal 0 0) (namedBy a) (w .bytes) (placed (namedBy a) (lent .new) file)) (loaded (w .answer) 0 list file) .answer .refusal .number ≡ 0
           → Accepted o list file lent (pick t (loaded (refusal 0 0) (namedBy a) (w .bytes) (placed (namedBy a) (lent .new) file)) (loaded (w .answer) 0 list file))
       stores a some w e true z h =
           let zero = eqb-true _ _ z in
-          let taken : w ≡ accepted (w .bytes) = rw e at (written-taken list (list-write-comes (o .n) (listing (afterwards (newEntry o (namedBy a)) (counted (a .l)))) list) (rw e zero)) in
+          let comes = list-write-comes (o .n) (listing (afterwards (newEntry o (namedBy a)) (counted (a .l)))) list in
+          let taken : w ≡ accepted (w .bytes) = rw e at (written-taken list comes (rw e zero)) in
           record { all = a; named = refl; pointer = some; listed = e ∙ taken; filed = refl }
       stores a some w e false z h = absurd (eqb-false _ _ z h)
 

@@ -36,6 +36,10 @@ pointer-within n before [] k rule h = absurd (omega arith)
 pointer-within n before (e ∷ es) zero (low, high, new, rest) h = (low, high)
 pointer-within n before (e ∷ es) (suc k) (low, high, new, rest) h = pointer-within n (before ++ (e .pointer ∷ [])) es k rest (omega arith)
 
+-- An entry with its position, chosen.
+abbrev pub chosenOf : ℕ × Entry → Selected
+chosenOf x = chosenAt (x .0) (x .1)
+
 module _ (list file : List ℕ) (n day operator : ℕ) where
   -- The answer.
   abbrev s : Selected
@@ -203,16 +207,16 @@ module _ (list file : List ℕ) (n day operator : ℕ) where
   no-part bad = rw (ne-eqb _ _ bad)
 
   -- The refusals of a selection.
-  pub select-comes : ComesTo (λ (x : ℕ × Entry). chosenAt (x .0) (x .1)) unselected (1 ∷ 11 ∷ 2 ∷ 4 ∷ 5 ∷ 6 ∷ 8 ∷ []) s
+  pub select-comes : ComesTo chosenOf unselected (1 ∷ 11 ∷ 2 ∷ 4 ∷ 5 ∷ 6 ∷ 8 ∷ []) s
   select-comes = go decided
     where
       from : (l : ContractList) → s ≡ answer (chosen (choice day operator file l))
           → Came (eligible day operator file) 1 nobody (counted l) (choice day operator file l)
-          → ComesTo (λ (x : ℕ × Entry). chosenAt (x .0) (x .1)) unselected (1 ∷ 11 ∷ 2 ∷ 4 ∷ 5 ∷ 6 ∷ 8 ∷ []) s
+          → ComesTo chosenOf unselected (1 ∷ 11 ∷ 2 ∷ 4 ∷ 5 ∷ 6 ∷ 8 ∷ []) s
       from l is (kept same over) = rw (none (choice day operator file l) is same) (stops (refusal 8 0) refl refl)
       from l is (taken j h same fit under least) =
           rw (one j (nth (counted l) j) (choice day operator file l) is same) (fine (1 + j, nth (counted l) j))
 
-      go : Decided s → ComesTo (λ (x : ℕ × Entry). chosenAt (x .0) (x .1)) unselected (1 ∷ 11 ∷ 2 ∷ 4 ∷ 5 ∷ 6 ∷ 8 ∷ []) s
+      go : Decided s → ComesTo chosenOf unselected (1 ∷ 11 ∷ 2 ∷ 4 ∷ 5 ∷ 6 ∷ 8 ∷ []) s
       go (sooner r why same) = rw same (comes-within (faulty r why) refl)
       go (later order l read is) = from l is (came l)

@@ -1,0 +1,257 @@
+-- All public operations, by their contracts: each contract determines the answer and the later contents of all that was lent; a
+-- refusal has one of a few numbers, and changes nothing that was lent. Document 01, "What the contracts must say". The contracts
+-- are the code's own: `Learnt` of a function is its `ensures`, as a caller has it.
+use Prim.Native.Nat.{ℕ}
+use mathlib.Core.Bool.{Bool, true, false}
+use mathlib.Core.List.{List, [], _∷_}
+use mathlib.Core.Path.{_≡_, refl, sym, ap, _∙_}
+use lib.ListN.{length}
+use denote.Ref.{now}
+use Rattle.rows.specs.Row.{among}
+use Rattle.rows.proofs.Refusing.{among-behind}
+use Rattle.records.specs.Answer.{Written, accepted}
+use Rattle.records.specs.Environment.{environmentTold}
+use Rattle.records.specs.Event.{eventTold}
+use Rattle.records.specs.declared.Refusal.{Refusal}
+use Rattle.holder.specs.declared.HolderRead.{HolderRead}
+use Rattle.lists.specs.declared.list.ListRead.{ListRead}
+use Rattle.lists.specs.declared.special.SpecialRead.{SpecialRead}
+use Rattle.contract.specs.Contract.{contractTold}
+use Rattle.selection.specs.declared.Selected.{Selected}
+use Rattle.loading.specs.Loading.{Outcome}
+use Rattle.loading.specs.declared.Loaded.{Loaded}
+use Rattle.text.specs.Hex.{choose, spelt}
+use Rattle.records.proofs.Telling.{environment-one, event-one}
+use Rattle.records.proofs.Coming.{ComesTo, fine, faulty, unwritten}
+use Rattle.records.proofs.environment.Laws.{environment-comes, environment-write-comes}
+use Rattle.records.proofs.event.Laws.{event-comes, event-write-comes}
+use Rattle.holder.proofs.Laws.{holder-comes, holder-write-comes}
+use Rattle.lists.proofs.list.Laws.{list-comes, list-write-comes}
+use Rattle.lists.proofs.special.Laws.{special-comes, special-write-comes}
+use Rattle.contract.proofs.Telling.{contract-one}
+use Rattle.contract.proofs.Laws.{contract-comes, contract-write-comes}
+use Rattle.selection.proofs.Laws.{select-comes}
+use Rattle.selection.proofs.FourBits.{change-comes}
+use Rattle.loading.proofs.Laws.{load-comes}
+use Rattle.gate.proofs.Laws.{apply-comes, find-comes, join-comes}
+use Rattle.samples.specs.All.{All, _&_}
+
+-- What an operation is given, how a call of it can end, which ends its contract allows, and what an end tells: the answer and the
+-- later contents of the bytes lent to be written. (Those lent to be read cannot change. Of a part that is returned its bytes are
+-- told.) What is told has a number, 0 where nothing was refused, and the operation a list of those that it refuses with.
+pub record Operation : Type 1 where
+  pub given : Type 0
+  pub end : given → Type 0
+  pub allows : (g : given) → end g → Type 0
+  pub told : Type 0
+  pub tells : (g : given) → end g → told
+  pub number : told → ℕ
+  pub numbers : List ℕ
+  -- the contents of all that is lent to be written, at the call and as they are told
+  pub before : given → List (List ℕ)
+  pub after : told → List (List ℕ)
+
+-- Two ends that are allowed tell the same.
+abbrev pub OneAnswer : Operation → Type 0
+OneAnswer o = (g : o .given) (x y : o .end g) → o .allows g x → o .allows g y → o .tells g x ≡ o .tells g y
+
+-- The number is 0 or one of the operation's.
+abbrev pub Numbered : Operation → Type 0
+Numbered o = (g : o .given) (x : o .end g) → o .allows g x → among (o .number (o .tells g x)) (0 ∷ o .numbers) ≡ true
+
+-- Where it is not 0, all that was lent to be written is as it was.
+abbrev pub Kept : Operation → Type 0
+Kept o = (g : o .given) (x : o .end g) → o .allows g x → (o .number (o .tells g x) ≡ 0 → ⊥) → o .after (o .tells g x) ≡ o .before g
+
+-- An operation by its contract: over lifetimes, arguments, a result and the arguments at exit.
+abbrev by :
+    {L : Type 0} {D R E : L → Type 0} {A : Type 0}
+    → ((κs : L) → D κs → R κs → E κs → Type 0)
+    → ((κs : L) → R κs → E κs → A)
+    → (A → ℕ)
+    → ((κs : L) → D κs → List (List ℕ))
+    → (A → List (List ℕ))
+    → List ℕ
+    → Operation
+by {L} {D} {R} {E} {A} contract tells number before after numbers =
+    record {
+      given = (κs : L) × D κs;
+      end = λ g. R (g .0) × E (g .0);
+      allows = λ g e. contract (g .0) (g .1) (e .0) (e .1);
+      told = A;
+      tells = λ g e. tells (g .0) (e .0) (e .1);
+      number = number;
+      numbers = numbers;
+      before = λ g. before (g .0) (g .1);
+      after = after;
+    }
+
+-- One that only reads.
+abbrev reading : {L : Type 0} {D E : L → Type 0} {A : Type 0} → ((κs : L) → D κs → A → E κs → Type 0) → (A → ℕ) → List ℕ → Operation
+reading contract number numbers = by contract (λ κs r s. r) number (λ κs d. []) (λ a. []) numbers
+
+-- One that refuses nothing.
+abbrev giving : {L : Type 0} {D R E : L → Type 0} {A : Type 0} → ((κs : L) → D κs → R κs → E κs → Type 0) → ((κs : L) → R κs → A) → Operation
+giving contract tells = by contract (λ κs r s. tells κs r) (λ a. 0) (λ κs d. []) (λ a. []) []
+
+-- One that writes to lent bytes.
+abbrev writing :
+    {L : Type 0} {D E : L → Type 0}
+    → ((κs : L) → D κs → Refusal → E κs → Type 0)
+    → ((κs : L) → D κs → List ℕ)
+    → ((κs : L) → E κs → List ℕ)
+    → List ℕ
+    → Operation
+writing contract before after numbers =
+    by {A = Written} contract (λ κs r s. record { answer = r; bytes = after κs s }) (λ w. w .answer .number) (λ κs d. before κs d ∷ []) (λ w. w .bytes ∷ []) numbers
+
+abbrev loading : Loaded → List ℕ → List ℕ → Outcome
+loading r list file = record { answer = r; list = list; file = file }
+
+abbrev filling : Bool → List ℕ → Bool × List ℕ
+filling r bytes = (r, bytes)
+
+unfoldable pub operations : List Operation
+operations =
+    reading Rattle.records.proofs.environment.read.Reads.Learnt (λ r. environmentTold r .number) (1 ∷ 3 ∷ 5 ∷ [])
+    ∷ writing Rattle.records.proofs.environment.write.Reads.Learnt (λ κs d. now (d .0)) (λ κs s. now (s .0)) (1 ∷ 3 ∷ 7 ∷ [])
+    ∷ reading Rattle.records.proofs.event.read.Reads.Learnt (λ r. eventTold r .number) (1 ∷ 2 ∷ 4 ∷ 5 ∷ [])
+    ∷ writing Rattle.records.proofs.event.write.Reads.Learnt (λ κs d. now (d .0)) (λ κs s. now (s .0)) (1 ∷ 2 ∷ 4 ∷ 7 ∷ [])
+    ∷ giving Rattle.records.proofs.part.Reads.Learnt (λ κs r. now r)
+    ∷ reading Rattle.holder.proofs.read.Reads.Learnt (λ r. r .refusal .number) (1 ∷ 2 ∷ 4 ∷ 5 ∷ [])
+    ∷ writing Rattle.holder.proofs.write.Reads.Learnt (λ κs d. now (d .0)) (λ κs s. now (s .0)) (1 ∷ 2 ∷ 4 ∷ 7 ∷ [])
+    ∷ reading Rattle.lists.proofs.list.read.Reads.Learnt (λ r. r .refusal .number) (1 ∷ 11 ∷ 2 ∷ 4 ∷ 5 ∷ 6 ∷ [])
+    ∷ writing Rattle.lists.proofs.list.write.Reads.Learnt (λ κs d. now (d .0)) (λ κs s. now (s .0)) (1 ∷ 11 ∷ 7 ∷ 2 ∷ 4 ∷ 6 ∷ [])
+    ∷ giving Rattle.lists.proofs.list.Entry.new.Reads.Learnt (λ κs r. r)
+    ∷ giving Rattle.lists.proofs.list.Entry.«with_network».Reads.Learnt (λ κs r. r)
+    ∷ giving Rattle.lists.proofs.list.ContractList.«with_priority».Reads.Learnt (λ κs r. r)
+    ∷ giving Rattle.lists.proofs.list.ContractList.with.Reads.Learnt (λ κs r. r)
+    ∷ giving Rattle.lists.proofs.list.ContractList.without.Reads.Learnt (λ κs r. r)
+    ∷ giving Rattle.lists.proofs.list.ContractList.len.Reads.Learnt (λ κs r. r)
+    ∷ reading Rattle.lists.proofs.special.read.Reads.Learnt (λ r. r .refusal .number) (1 ∷ 11 ∷ 4 ∷ 5 ∷ 6 ∷ [])
+    ∷ writing Rattle.lists.proofs.special.write.Reads.Learnt (λ κs d. now (d .0)) (λ κs s. now (s .0)) (1 ∷ 11 ∷ 7 ∷ 4 ∷ 6 ∷ [])
+    ∷ reading Rattle.contract.proofs.read.Reads.Learnt (λ r. contractTold r .number) (1 ∷ 3 ∷ 2 ∷ 4 ∷ 5 ∷ [])
+    ∷ writing Rattle.contract.proofs.write.Reads.Learnt (λ κs d. now (d .0)) (λ κs s. now (s .0)) (1 ∷ 3 ∷ 7 ∷ 2 ∷ 4 ∷ [])
+    ∷ reading Rattle.selection.proofs.select.Reads.Learnt (λ r. r .refusal .number) (1 ∷ 11 ∷ 2 ∷ 4 ∷ 5 ∷ 6 ∷ 8 ∷ [])
+    ∷ giving Rattle.selection.proofs.part.Reads.Learnt (λ κs r. now r)
+    ∷ writing Rattle.selection.proofs.«change_priority».Reads.Learnt (λ κs d. now (d .0)) (λ κs s. now (s .0)) (1 ∷ 11 ∷ 2 ∷ 4 ∷ 5 ∷ 6 ∷ [])
+    ∷ by Rattle.loading.proofs.load.Reads.Learnt (λ κs r s. loading r (now (s .0)) (now (s .1 .0))) (λ x. x .answer .refusal .number)
+    (λ κs d. now (d .0) ∷ now (d .1 .0) ∷ []) (λ x. x .list ∷ x .file ∷ []) (1 ∷ 11 ∷ 2 ∷ 3 ∷ 4 ∷ 5 ∷ 6 ∷ 9 ∷ [])
+    ∷ writing Rattle.gate.proofs.apply.Reads.Learnt (λ κs d. now (d .0)) (λ κs s. now (s .0)) (1 ∷ 11 ∷ [])
+    ∷ writing Rattle.gate.proofs.find.Reads.Learnt (λ κs d. now (d .1 .1 .0)) (λ κs s. now (s .1 .1 .0)) (1 ∷ 10 ∷ [])
+    ∷ writing Rattle.gate.proofs.join.Reads.Learnt (λ κs d. now (d .1 .1 .0)) (λ κs s. now (s .1 .1 .0)) (1 ∷ [])
+    -- no text of so many bytes: false, here 1
+    ∷ by Rattle.text.proofs.bytes.Reads.Learnt (λ κs r s. filling r (now (s .1 .0))) (λ x. choose (x .0) 0 1) (λ κs d. now (d .1 .0) ∷ []) (λ x. x .1 ∷ []) (1 ∷ [])
+    ∷ []
+
+-- A contract that is an equality allows one answer.
+same : {A : Type 0} {a b c : A} → a ≡ c → b ≡ c → a ≡ b
+same p q = p ∙ sym q
+
+-- So does one that gives the result, and the contents by it.
+same-by :
+    {A B : Type 0} {r s t : B} {x y : A}
+    → (contents : B → A)
+    → (r ≡ t) × (x ≡ contents r)
+    → (s ≡ t) × (y ≡ contents s)
+    → _≡_ {A = B × A} (r, x) (s, y)
+same-by contents p q =
+    let result = same (p .0) (q .0) in
+    let bytes = p .1 ∙ ap contents result ∙ sym (q .1) in
+    λ i. (result i, bytes i)
+
+-- Every contract allows one answer.
+pub all-one : All OneAnswer operations
+unfolding operations
+all-one =
+    (λ g x y p q. environment-one _ _ (same p q)) & (λ g x y. same)
+    & (λ g x y p q. event-one _ _ (same p q)) & (λ g x y. same) & (λ g x y. same) & (λ g x y. same)
+    & (λ g x y. same) & (λ g x y. same) & (λ g x y. same) & (λ g x y. same) & (λ g x y. same) & (λ g x y. same)
+    & (λ g x y. same) & (λ g x y. same) & (λ g x y. same) & (λ g x y. same) & (λ g x y. same)
+    & (λ g x y p q. contract-one _ _ (same p q))
+    & (λ g x y. same) & (λ g x y. same) & (λ g x y. same) & (λ g x y. same) & (λ g x y. same) & (λ g x y. same)
+    & (λ g x y. same) & (λ g x y. same)
+    & (λ g x y. same-by (λ r. choose r (spelt (length (now (g .1 .1 .0))) (now (g .1 .0))) (now (g .1 .1 .0))))
+    & tt
+
+-- What is told has one of some numbers or 0, and leaves what was there where it is not 0.
+abbrev Sound : {A : Type 0} → (A → ℕ) → (A → List (List ℕ)) → List ℕ → List (List ℕ) → A → Type 0
+Sound number after ns before x = (among (number x) (0 ∷ ns) ≡ true) × ((number x ≡ 0 → ⊥) → after x ≡ before)
+
+-- So it does, if it comes to a value with number 0, or to a refusal with its own number that leaves what was there.
+sound :
+    {A B : Type 0} {good : A → B} {bad : Refusal → B} (number : B → ℕ) (after : B → List (List ℕ)) (before : List (List ℕ))
+    → ((a : A) → number (good a) ≡ 0)
+    → ((r : Refusal) → (number (bad r) ≡ r .number) × (after (bad r) ≡ before))
+    → {ns : List ℕ} {x y : B} → x ≡ y → ComesTo good bad ns y
+    → Sound number after ns before x
+sound number after before of-good of-bad {ns} {x} is (fine a) =
+    let zero : number x ≡ 0 = ap number is ∙ of-good a in
+    (rw zero, λ some. absurd (some zero))
+sound number after before of-good of-bad {ns} is (faulty r why) =
+    let (own, kept) = of-bad r in
+    (rw (ap number is ∙ own) (among-behind (r .number) (0 ∷ []) ns (why .listed)), λ some. ap after is ∙ kept)
+
+-- A reading, and a writing.
+read :
+    {A B : Type 0} {good : A → B} {bad : Refusal → B} (number : B → ℕ)
+    → ((a : A) → number (good a) ≡ 0)
+    → ((r : Refusal) → number (bad r) ≡ r .number)
+    → {ns : List ℕ} {x y : B} → x ≡ y → ComesTo good bad ns y
+    → Sound number (λ b. []) ns [] x
+read number of-good of-bad = sound number (λ b. []) [] of-good (λ r. (of-bad r, refl))
+
+wrote : (before : List ℕ) {ns : List ℕ} {x y : Written} → x ≡ y → ComesTo accepted (unwritten before) ns y
+    → Sound (λ w. w .answer .number) (λ w. w .bytes ∷ []) ns (before ∷ []) x
+wrote before = sound (λ w. w .answer .number) (λ w. w .bytes ∷ []) (before ∷ []) (λ a. refl) (λ r. (refl, refl))
+
+-- A text that spells no bytes leaves those lent.
+filled : (r : Bool) (x bytes before : List ℕ) → x ≡ choose r bytes before
+    → Sound (λ (t : Bool × List ℕ). choose (t .0) 0 1) (λ (t : Bool × List ℕ). t .1 ∷ []) (1 ∷ []) (before ∷ []) (r, x)
+filled true x bytes before h = (refl, λ some. absurd (some refl))
+filled false x bytes before h = (refl, λ some. ap (λ (l : List ℕ). l ∷ []) h)
+
+-- Both, of every answer that an operation's contract allows.
+abbrev Both : Operation → Type 0
+Both o = (g : o .given) (x : o .end g) → o .allows g x → Sound (o .number) (o .after) (o .numbers) (o .before g) (o .tells g x)
+
+all-sound : All Both operations
+unfolding operations
+all-sound =
+    (λ g x p. read (λ r. environmentTold r .number) (λ a. refl) (λ r. refl) (environment-one (x .0) _ p) (environment-comes (now (g .1 .0))))
+    & (λ g x p. wrote (now (g .1 .0)) p (environment-write-comes (now (g .1 .0)) (g .1 .1 .0)))
+    & (λ g x p. read (λ r. eventTold r .number) (λ a. refl) (λ r. refl) (event-one (x .0) _ p) (event-comes (now (g .1 .0))))
+    & (λ g x p. wrote (now (g .1 .0)) p (event-write-comes (now (g .1 .0)) (g .1 .1 .0)))
+    & (λ g x p. (refl, λ some. refl))
+    & (λ g x p. read (λ (r : HolderRead). r .refusal .number) (λ a. refl) (λ r. refl) p (holder-comes (now (g .1 .0))))
+    & (λ g x p. wrote (now (g .1 .0)) p (holder-write-comes (now (g .1 .0)) (g .1 .1 .0)))
+    & (λ g x p. read (λ (r : ListRead). r .refusal .number) (λ a. refl) (λ r. refl) p (list-comes (g .1 .1 .0) (now (g .1 .0))))
+    & (λ g x p. wrote (now (g .1 .0)) p (list-write-comes (g .1 .1 .0) (g .1 .1 .1 .0) (now (g .1 .0))))
+    & (λ g x p. (refl, λ some. refl)) & (λ g x p. (refl, λ some. refl)) & (λ g x p. (refl, λ some. refl))
+    & (λ g x p. (refl, λ some. refl)) & (λ g x p. (refl, λ some. refl)) & (λ g x p. (refl, λ some. refl))
+    & (λ g x p. read (λ (r : SpecialRead). r .refusal .number) (λ a. refl) (λ r. refl) p (special-comes (g .1 .1 .0) (now (g .1 .0))))
+    & (λ g x p. wrote (now (g .1 .0)) p (special-write-comes (g .1 .1 .0) (g .1 .1 .1 .0) (now (g .1 .0))))
+    & (λ g x p. read (λ r. contractTold r .number) (λ a. refl) (λ r. refl) (contract-one (x .0) _ p) (contract-comes (g .1 .1 .0) (now (g .1 .0))))
+    & (λ g x p. wrote (now (g .1 .0)) p (contract-write-comes (g .1 .1 .0) (g .1 .1 .1 .0) (now (g .1 .0))))
+    & (λ g x p. read (λ (r : Selected). r .refusal .number) (λ a. refl) (λ r. refl) p (select-comes _ _ _ _ _))
+    & (λ g x p. (refl, λ some. refl))
+    & (λ g x p. wrote (now (g .1 .0)) p (change-comes _ _ _ _))
+    & (λ g x p. sound (λ (t : Outcome). t .answer .refusal .number) (λ t. t .list ∷ t .file ∷ []) _ (λ a. refl) (λ r. (refl, refl)) p (load-comes _ _ _ _))
+    & (λ g x p. wrote (now (g .1 .0)) p (apply-comes _ _))
+    & (λ g x p. wrote (now (g .1 .1 .1 .0)) p (find-comes _ _ _))
+    & (λ g x p. wrote (now (g .1 .1 .1 .0)) p (join-comes _ _ _))
+    & (λ g x p. filled (x .0) _ _ _ (p .1))
+    & tt
+
+-- What follows of each follows of all.
+all-of : {P Q : Operation → Type 0} → ((o : Operation) → P o → Q o) → (os : List Operation) → All P os → All Q os
+all-of part [] all = tt
+all-of part (o ∷ os) (this, rest) = (part o this, all-of part os rest)
+
+-- Every answer has the number 0 or one of its operation's,
+pub all-numbered : All Numbered operations
+all-numbered = all-of (λ o h g x p. h g x p .0) operations all-sound
+
+-- and where it is not 0 nothing that was lent has changed.
+pub all-kept : All Kept operations
+all-kept = all-of (λ o h g x p. h g x p .1) operations all-sound
