@@ -1,15 +1,15 @@
 // Holder, in an area of 1 to 4 records handed over together.
 ghost use mathlib.Core.Path.{_≡_};
-ghost use mathlib.Core.List.{List, [], _∷_, _++_};
+ghost use mathlib.Core.List.{[], _∷_};
 ghost use mathlib.Core.Bool.{true};
-ghost use Prim.Native.Nat.{ℕ, _≤_};
+ghost use Prim.Native.Nat.{_≤_};
 ghost use lib.ListN.{length};
 ghost use Rattle.rows.specs.inner.Step.{Ready, Took, Drafted, Gave};
 ghost use Rattle.rows.specs.inner.Line.{start, Taken, Puts, Given};
 ghost use Rattle.rows.specs.table.Holder.{holder};
 ghost use Rattle.records.specs.Answer.{Written, areaLength, refusal, from};
-ghost use Rattle.holder.specs.Holder.{numbersOf, holderOf, unread, holderRead, holderWritten};
-ghost use Rattle.holder.specs.inner.Steps.{block, personNumbers, identityNumbers, dataNumbers, partsNumbers, ProfileTook, ProfileGave};
+ghost use Rattle.holder.specs.Holder.{numbersOf, unread, holderRead, holderWritten};
+ghost use Rattle.holder.specs.inner.Steps.{block, ProfileTook, ProfileGave};
 use records::Refusal;
 use rows::Cursor;
 use rows::Rule;
@@ -59,49 +59,12 @@ pub struct HolderRead {
     pub holder: Holder,
 }
 
-// The parts of a Holder that are taken together, each with the cursor behind its last field.
-struct Person {
-    bitmap: u32,
-    name_bitmap: u32,
-    surname: [u32; 17],
-    forename: [u32; 17],
-    birth_bitmap: u32,
-    birth_date: u32,
-    birth_place: [u32; 23],
-    birth_name: [u32; 17],
-    last: Cursor,
-}
-
-struct Identity {
-    id: u32,
-    country: u32,
-    company: u32,
-    profile_count: u32,
-    last: Cursor,
-}
-
 struct ProfileTaken {
     value: Profile,
     last: Cursor,
 }
 
-struct Data {
-    data_bitmap: u32,
-    card_status: u32,
-    telepayment: u32,
-    residence: u32,
-    commercial_id: u32,
-    work_place: u32,
-    study_place: u32,
-    sale_device: u32,
-    authenticator: u32,
-    start1: u32,
-    start2: u32,
-    start3: u32,
-    start4: u32,
-    last: Cursor,
-}
-
+// The Holder taken so far, and the cursor behind the last field.
 struct Fields {
     value: Holder,
     last: Cursor,
@@ -117,216 +80,9 @@ impl Profile {
     };
 }
 
-fn is_area(n: usize) -> bool
-    ensures { λ r. ⌜ r ≡ areaLength n ⌝ }
-{
-    if n == 29 {
-        return true;
-    }
-    if n == 58 {
-        return true;
-    }
-    if n == 87 {
-        return true;
-    }
-    n == 116
-}
-
-fn take_person(words: &[u64], end: u32) -> Person
-    requires { ⌜ (length (now words) ≡ 30) × (end ≤ 928) ⌝ }
-    ensures { λ r. ⌜ Taken (now (words .entry)) end (block 0 8) [] start (personNumbers r) (r .last) ⌝ }
-{
-    let mut surname = [0u32; 17];
-    let mut forename = [0u32; 17];
-    let mut birth_place = [0u32; 23];
-    let mut birth_name = [0u32; 17];
-    let bitmap = take::number(words, end, Cursor::START, When::Always, 8);
-    let name = take::number(words, end, bitmap, When::Bit(bitmap.number, 0), 2);
-    let c = take::text(words, end, name, When::Bit(name.number, 0), &mut surname);
-    let c = take::text(words, end, c, When::Bit(name.number, 1), &mut forename);
-    let birth = take::number(words, end, c, When::Bit(bitmap.number, 1), 2);
-    let date = take::number(words, end, birth, When::Bit(birth.number, 0), 32);
-    let c = take::text(
-        words,
-        end,
-        date,
-        When::Bit(birth.number, 1),
-        &mut birth_place,
-    );
-    let last = take::text(words, end, c, When::Bit(bitmap.number, 2), &mut birth_name);
-    Person {
-        bitmap: bitmap.number,
-        name_bitmap: name.number,
-        surname,
-        forename,
-        birth_bitmap: birth.number,
-        birth_date: date.number,
-        birth_place,
-        birth_name,
-        last,
-    }
-}
-
-fn take_identity(words: &[u64], end: u32, c: Cursor, bitmap: u32) -> Identity
-    requires { ⌜ Ready (now words) end c ⌝ }
-    ensures { λ r. ⌜ ((xs : List ℕ)
-        → Taken (now (words .entry)) end (block 8 4) (bitmap ∷ from 0 77 xs) c ((bitmap ∷ from 0 77 xs) ++ identityNumbers r) (r .last)) ⌝ }
-{
-    let id = take::number(words, end, c, When::Bit(bitmap, 3), 32);
-    let country = take::number(words, end, id, When::Bit(bitmap, 4), 24);
-    let company = take::number(words, end, country, When::Bit(bitmap, 5), 32);
-    let count = take::at_most(words, end, company, When::Bit(bitmap, 6), 4, 4);
-    Identity {
-        id: id.number,
-        country: country.number,
-        company: company.number,
-        profile_count: count.number,
-        last: count,
-    }
-}
-
-// Profile k, from 0, of so many.
-fn take_profile(words: &[u64], end: u32, c: Cursor, count: u32, k: u32) -> ProfileTaken
-    requires { ⌜ Ready (now words) end c ⌝ }
-    ensures { λ r. ⌜ ProfileTook (now (words .entry)) end c count k (r .value) (r .last) ⌝ }
-{
-    let bitmap = take::number(words, end, c, When::Above(count, k), 3);
-    let network = take::number(words, end, bitmap, When::Bit(bitmap.number, 0), 24);
-    let number = take::number(words, end, network, When::Bit(bitmap.number, 1), 8);
-    let date = take::number(words, end, number, When::Bit(bitmap.number, 2), 14);
-    ProfileTaken {
-        value: Profile {
-            bitmap: bitmap.number,
-            network: network.number,
-            number: number.number,
-            date: date.number,
-        },
-        last: date,
-    }
-}
-
-// A residence, work or study place.
-fn take_place(words: &[u64], end: u32, c: Cursor, when: When) -> Cursor
-    requires { ⌜ Ready (now words) end c ⌝ }
-    ensures { λ d. ⌜ Took (now (words .entry)) end c when (17 ∷ []) (Rule.Most 99999) (d .number ∷ []) d ⌝ }
-{
-    take::at_most(words, end, c, when, 17, 99999)
-}
-
-fn take_data(words: &[u64], end: u32, c: Cursor, bitmap: u32) -> Data
-    requires { ⌜ Ready (now words) end c ⌝ }
-    ensures { λ r. ⌜ ((xs : List ℕ)
-        → Taken (now (words .entry)) end (block 28 13) (bitmap ∷ from 0 97 xs) c ((bitmap ∷ from 0 97 xs) ++ dataNumbers r) (r .last)) ⌝ }
-{
-    let data = take::number(words, end, c, When::Bit(bitmap, 7), 12);
-    let status = take::number(words, end, data, When::Bit(data.number, 0), 4);
-    let pay = take::number(words, end, status, When::Bit(data.number, 1), 4);
-    let residence = take_place(words, end, pay, When::Bit(data.number, 2));
-    let commercial = take::number(words, end, residence, When::Bit(data.number, 3), 6);
-    let work = take_place(words, end, commercial, When::Bit(data.number, 4));
-    let study = take_place(words, end, work, When::Bit(data.number, 5));
-    let sale = take::number(words, end, study, When::Bit(data.number, 6), 16);
-    let auth = take::number(words, end, sale, When::Bit(data.number, 7), 16);
-    let start1 = take::number(words, end, auth, When::Bit(data.number, 8), 14);
-    let start2 = take::number(words, end, start1, When::Bit(data.number, 9), 14);
-    let start3 = take::number(words, end, start2, When::Bit(data.number, 10), 14);
-    let start4 = take::number(words, end, start3, When::Bit(data.number, 11), 14);
-    Data {
-        data_bitmap: data.number,
-        card_status: status.number,
-        telepayment: pay.number,
-        residence: residence.number,
-        commercial_id: commercial.number,
-        work_place: work.number,
-        study_place: study.number,
-        sale_device: sale.number,
-        authenticator: auth.number,
-        start1: start1.number,
-        start2: start2.number,
-        start3: start3.number,
-        start4: start4.number,
-        last: start4,
-    }
-}
-
-// The parts taken, as one Holder.
-fn join(p: Person, i: Identity, a: Profile, b: Profile, c: Profile, d: Profile, e: Data) -> Holder
-    ensures { λ r. ⌜ numbersOf r ≡ partsNumbers p i a b c d e ⌝ }
-{
-    let surname = p.surname;
-    let forename = p.forename;
-    let birth_place = p.birth_place;
-    let birth_name = p.birth_name;
-    Holder {
-        bitmap: p.bitmap,
-        name_bitmap: p.name_bitmap,
-        surname,
-        forename,
-        birth_bitmap: p.birth_bitmap,
-        birth_date: p.birth_date,
-        birth_place,
-        birth_name,
-        id: i.id,
-        country: i.country,
-        company: i.company,
-        profile_count: i.profile_count,
-        profiles: [a, b, c, d],
-        data_bitmap: e.data_bitmap,
-        card_status: e.card_status,
-        telepayment: e.telepayment,
-        residence: e.residence,
-        commercial_id: e.commercial_id,
-        work_place: e.work_place,
-        study_place: e.study_place,
-        sale_device: e.sale_device,
-        authenticator: e.authenticator,
-        start1: e.start1,
-        start2: e.start2,
-        start3: e.start3,
-        start4: e.start4,
-    }
-}
-
-fn take_fields(words: &[u64], end: u32) -> Fields
-    requires { ⌜ (length (now words) ≡ 30) × (end ≤ 928) ⌝ }
-    ensures { λ r. ⌜ Taken (now (words .entry)) end holder [] start (numbersOf (r .value)) (r .last) ⌝ }
-{
-    let person = take_person(words, end);
-    let c = person.last;
-    let identity = take_identity(words, end, c, person.bitmap);
-    let c = identity.last;
-    let count = identity.profile_count;
-    let p1 = take_profile(words, end, c, count, 0);
-    let c = p1.last;
-    let p2 = take_profile(words, end, c, count, 1);
-    let c = p2.last;
-    let p3 = take_profile(words, end, c, count, 2);
-    let c = p3.last;
-    let p4 = take_profile(words, end, c, count, 3);
-    let c = p4.last;
-    let data = take_data(words, end, c, person.bitmap);
-    let last = data.last;
-    let profile1 = p1.value;
-    let profile2 = p2.value;
-    let profile3 = p3.value;
-    let profile4 = p4.value;
-    let value = join(
-        person,
-        identity,
-        profile1,
-        profile2,
-        profile3,
-        profile4,
-        data,
-    );
-    Fields { value, last }
-}
-
-// A Holder of zeros.
-fn blank() -> Holder
-    ensures { λ r. ⌜ r ≡ holderOf [] ⌝ }
-{
-    Holder {
+impl Holder {
+    // All numbers zero.
+    const ZERO: Holder = Holder {
         bitmap: 0,
         name_bitmap: 0,
         surname: [0; 17],
@@ -353,16 +109,186 @@ fn blank() -> Holder
         start2: 0,
         start3: 0,
         start4: 0,
+    };
+}
+
+fn is_area(n: usize) -> bool
+    ensures { λ r. ⌜ r ≡ areaLength n ⌝ }
+{
+    if n == 29 {
+        return true;
     }
+    if n == 58 {
+        return true;
+    }
+    if n == 87 {
+        return true;
+    }
+    n == 116
+}
+
+fn take_person(words: &[u64], end: u32) -> Fields
+    requires { ⌜ (length (now words) ≡ 30) × (end ≤ 928) ⌝ }
+    ensures { λ r. ⌜ Taken (now (words .entry)) end (block 0 8) [] start (from 0 78 (numbersOf (r .value))) (r .last) ⌝ }
+{
+    let mut surname = [0u32; 17];
+    let mut forename = [0u32; 17];
+    let mut birth_place = [0u32; 23];
+    let mut birth_name = [0u32; 17];
+    let bitmap = take::number(words, end, Cursor::START, When::Always, 8);
+    let name = take::number(words, end, bitmap, When::Bit(bitmap.number, 0), 2);
+    let c = take::text(words, end, name, When::Bit(name.number, 0), &mut surname);
+    let c = take::text(words, end, c, When::Bit(name.number, 1), &mut forename);
+    let birth = take::number(words, end, c, When::Bit(bitmap.number, 1), 2);
+    let date = take::number(words, end, birth, When::Bit(birth.number, 0), 32);
+    let c = take::text(
+        words,
+        end,
+        date,
+        When::Bit(birth.number, 1),
+        &mut birth_place,
+    );
+    let last = take::text(words, end, c, When::Bit(bitmap.number, 2), &mut birth_name);
+    let mut h = Holder::ZERO;
+    h.bitmap = bitmap.number;
+    h.name_bitmap = name.number;
+    h.surname = surname;
+    h.forename = forename;
+    h.birth_bitmap = birth.number;
+    h.birth_date = date.number;
+    h.birth_place = birth_place;
+    h.birth_name = birth_name;
+    Fields { value: h, last }
+}
+
+fn take_identity(words: &[u64], end: u32, fields: Fields) -> Fields
+    requires { ⌜ Ready (now words) end (fields .last) ⌝ }
+    ensures { λ r. ⌜ Taken (now (words .entry)) end (block 8 4) (from 0 78 (numbersOf (fields .value))) (fields .last)
+        (from 0 82 (numbersOf (r .value))) (r .last) ⌝ }
+{
+    let c = fields.last;
+    let mut h = fields.value;
+    let id = take::number(words, end, c, When::Bit(h.bitmap, 3), 32);
+    let country = take::number(words, end, id, When::Bit(h.bitmap, 4), 24);
+    let company = take::number(words, end, country, When::Bit(h.bitmap, 5), 32);
+    let count = take::at_most(words, end, company, When::Bit(h.bitmap, 6), 4, 4);
+    h.id = id.number;
+    h.country = country.number;
+    h.company = company.number;
+    h.profile_count = count.number;
+    Fields {
+        value: h,
+        last: count,
+    }
+}
+
+// Profile k, from 0, of so many.
+fn take_profile(words: &[u64], end: u32, c: Cursor, count: u32, k: u32) -> ProfileTaken
+    requires { ⌜ Ready (now words) end c ⌝ }
+    ensures { λ r. ⌜ ProfileTook (now (words .entry)) end c count k (r .value) (r .last) ⌝ }
+{
+    let bitmap = take::number(words, end, c, When::Above(count, k), 3);
+    let network = take::number(words, end, bitmap, When::Bit(bitmap.number, 0), 24);
+    let number = take::number(words, end, network, When::Bit(bitmap.number, 1), 8);
+    let date = take::number(words, end, number, When::Bit(bitmap.number, 2), 14);
+    ProfileTaken {
+        value: Profile {
+            bitmap: bitmap.number,
+            network: network.number,
+            number: number.number,
+            date: date.number,
+        },
+        last: date,
+    }
+}
+
+fn take_profiles(words: &[u64], end: u32, fields: Fields) -> Fields
+    requires { ⌜ Ready (now words) end (fields .last) ⌝ }
+    ensures { λ r. ⌜ Taken (now (words .entry)) end (block 12 16) (from 0 82 (numbersOf (fields .value))) (fields .last)
+        (from 0 98 (numbersOf (r .value))) (r .last) ⌝ }
+{
+    let c = fields.last;
+    let mut h = fields.value;
+    let count = h.profile_count;
+    let p1 = take_profile(words, end, c, count, 0);
+    let c = p1.last;
+    let p2 = take_profile(words, end, c, count, 1);
+    let c = p2.last;
+    let p3 = take_profile(words, end, c, count, 2);
+    let c = p3.last;
+    let p4 = take_profile(words, end, c, count, 3);
+    let last = p4.last;
+    let profile1 = p1.value;
+    let profile2 = p2.value;
+    let profile3 = p3.value;
+    let profile4 = p4.value;
+    h.profiles = [profile1, profile2, profile3, profile4];
+    Fields { value: h, last }
+}
+
+// A residence, work or study place.
+fn take_place(words: &[u64], end: u32, c: Cursor, when: When) -> Cursor
+    requires { ⌜ Ready (now words) end c ⌝ }
+    ensures { λ d. ⌜ Took (now (words .entry)) end c when (17 ∷ []) (Rule.Most 99999) (d .number ∷ []) d ⌝ }
+{
+    take::at_most(words, end, c, when, 17, 99999)
+}
+
+fn take_data(words: &[u64], end: u32, fields: Fields) -> Fields
+    requires { ⌜ Ready (now words) end (fields .last) ⌝ }
+    ensures { λ r. ⌜ Taken (now (words .entry)) end (block 28 13) (from 0 98 (numbersOf (fields .value))) (fields .last)
+        (numbersOf (r .value)) (r .last) ⌝ }
+{
+    let c = fields.last;
+    let mut h = fields.value;
+    let data = take::number(words, end, c, When::Bit(h.bitmap, 7), 12);
+    let status = take::number(words, end, data, When::Bit(data.number, 0), 4);
+    let pay = take::number(words, end, status, When::Bit(data.number, 1), 4);
+    let residence = take_place(words, end, pay, When::Bit(data.number, 2));
+    let commercial = take::number(words, end, residence, When::Bit(data.number, 3), 6);
+    let work = take_place(words, end, commercial, When::Bit(data.number, 4));
+    let study = take_place(words, end, work, When::Bit(data.number, 5));
+    let sale = take::number(words, end, study, When::Bit(data.number, 6), 16);
+    let auth = take::number(words, end, sale, When::Bit(data.number, 7), 16);
+    let start1 = take::number(words, end, auth, When::Bit(data.number, 8), 14);
+    let start2 = take::number(words, end, start1, When::Bit(data.number, 9), 14);
+    let start3 = take::number(words, end, start2, When::Bit(data.number, 10), 14);
+    let start4 = take::number(words, end, start3, When::Bit(data.number, 11), 14);
+    h.data_bitmap = data.number;
+    h.card_status = status.number;
+    h.telepayment = pay.number;
+    h.residence = residence.number;
+    h.commercial_id = commercial.number;
+    h.work_place = work.number;
+    h.study_place = study.number;
+    h.sale_device = sale.number;
+    h.authenticator = auth.number;
+    h.start1 = start1.number;
+    h.start2 = start2.number;
+    h.start3 = start3.number;
+    h.start4 = start4.number;
+    Fields {
+        value: h,
+        last: start4,
+    }
+}
+
+fn take_fields(words: &[u64], end: u32) -> Fields
+    requires { ⌜ (length (now words) ≡ 30) × (end ≤ 928) ⌝ }
+    ensures { λ r. ⌜ Taken (now (words .entry)) end holder [] start (numbersOf (r .value)) (r .last) ⌝ }
+{
+    let person = take_person(words, end);
+    let identity = take_identity(words, end, person);
+    let profiles = take_profiles(words, end, identity);
+    take_data(words, end, profiles)
 }
 
 fn refused(number: u32, place: u32) -> HolderRead
     ensures { λ r. ⌜ r ≡ unread (refusal number place) ⌝ }
 {
-    let holder = blank();
     HolderRead {
         refusal: Refusal { number, place },
-        holder,
+        holder: Holder::ZERO,
     }
 }
 

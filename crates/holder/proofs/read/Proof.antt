@@ -7,22 +7,17 @@ use borrow.Author.Needs.{needs}
 use Rattle.holder.proofs.read.Statement.{statement}
 use Rattle.holder.proofs.read.Tie as tie
 
-is-area-requires : tie.Need-is-area-requires
-is-area-requires c κs = search needs
-
-read-area-requires : tie.Need-read-area-requires
-read-area-requires c κs = cc
-
-returns : tie.Need-returns
-returns c = search needs
-
-refused-requires : tie.Need-refused-requires
-refused-requires c κs = search needs
-
 returns-2 : tie.Need-returns-2
-returns-2 c = let short : areaLength (length (c .before .before .before .before .args .bytes .now)) ≡ false = cc in
+returns-2 c =
+    let short : areaLength (length (c .before .before .before .before .args .bytes .now)) ≡ false = cc in
     c .refused .ensures ∙ area-short _ _ _ _ short
 
 pub read-spec : {M : Type 1} → statement M
 read-spec =
-    tie.close (tie.spec is-area-requires read-area-requires returns refused-requires returns-2)
+    tie.close
+    (tie.spec
+    (λ c κs. search needs)
+    (λ c κs. cc)
+    (λ c. search needs)
+    (λ c κs. search needs)
+    returns-2)

@@ -1,4 +1,3 @@
-use Prim.Native.Nat.{_≤_}
 use mathlib.Core.Path.{_≡_, _∙_}
 use native.Mathlib.Omega.{arith}
 use lib.ListN.{length, length-map}
@@ -10,44 +9,16 @@ use borrow.Author.Needs.{needs}
 use Rattle.holder.proofs.read_area.Statement.{statement}
 use Rattle.holder.proofs.read_area.Tie as tie
 
-cast-end : tie.Need-cast-end
-cast-end c = let small : length (c .before .args .bytes .now) ≤ 116 = area-room _ (c .before .pre) in
-    omega arith
-
-mul-end : tie.Need-mul-end
-mul-end c = let small : length (c .before .args .bytes .now) ≤ 116 = area-room _ (c .before .pre) in
-    omega arith
-
-slice-aggregate-words : tie.Need-slice-aggregate-words
-slice-aggregate-words c = search needs
-
-words-requires : tie.Need-words-requires
-words-requires c κs = search needs
-
-slice-aggregate-take-fields : tie.Need-slice-aggregate-take-fields
-slice-aggregate-take-fields c = search needs
-
-take-fields-requires : tie.Need-take-fields-requires
-take-fields-requires c κs = let small : length (c .before .before .before .before .before .args .bytes .now) ≤ 116 = area-room _ (c .before .before .before .before .before .pre) in
-    (search needs, omega arith)
-
-slice-aggregate-end : tie.Need-slice-aggregate-end
-slice-aggregate-end c = search needs
-
-end-requires : tie.Need-end-requires
-end-requires c κs = search needs
-
-refused-requires : tie.Need-refused-requires
-refused-requires c κs = search needs
-
 returns : tie.Need-returns
-returns c = let bytes = c .before .before .before .before .before .before .before .before .before .before .before .before .args .bytes .now in
+returns c =
+    let bytes = c .before .before .before .before .before .before .before .before .before .before .before .before .args .bytes .now in
     let words = c .before .before .before .before .before .before .before .before .before .words2 .last .1 .0 in
     let cuts : words ≡ cut 32 63 (length words) (spread 8 bytes) = rw (c .before .before .before .before .before .before .before .before .before .words2 .kept .1 .0) (c .before .before .before .before .before .before .before .before .before .words2 .ensures) in
     c .refused .ensures ∙ area-refused _ _ _ bytes words _ _ _ (c .before .before .before .before .before .before .before .before .before .before .before .before .pre) cuts (c .before .before .before .before .before .before .take-fields .ensures) (c .before .before .before .end .ensures) (c .before .if1 .taken)
 
 returns-2 : tie.Need-returns-2
-returns-2 c = let bytes = c .before .before .before .before .before .before .before .before .before .before .before .before .args .bytes .now in
+returns-2 c =
+    let bytes = c .before .before .before .before .before .before .before .before .before .before .before .before .args .bytes .now in
     let words = c .before .before .before .before .before .before .before .before .before .words2 .last .1 .0 in
     let cuts : words ≡ cut 32 63 (length words) (spread 8 bytes) = rw (c .before .before .before .before .before .before .before .before .before .words2 .kept .1 .0) (c .before .before .before .before .before .before .before .before .before .words2 .ensures) in
     let long : Spelled (c .before .before .before .before .before .before .take-fields .result .value) = record { surname = search needs; forename = search needs; «birth_place» = let own = c .before .before .before .before .before .before .take-fields .ok .1 .1 .0 .1 .1 .1 .1 .1 .1 .1 .1 .0 in search needs; «birth_name» = let own = c .before .before .before .before .before .before .take-fields .ok .1 .1 .0 .1 .1 .1 .1 .1 .1 .1 .1 .1 .0 in search needs } in
@@ -58,14 +29,14 @@ pub read-area-spec : {M : Type 1} → statement M
 read-area-spec =
     tie.close
     (tie.spec
-    cast-end
-    mul-end
-    slice-aggregate-words
-    words-requires
-    slice-aggregate-take-fields
-    take-fields-requires
-    slice-aggregate-end
-    end-requires
-    refused-requires
+    (λ c. omega (arith, area-room _ (c .before .pre)))
+    (λ c. omega (arith, area-room _ (c .before .pre)))
+    (λ c. search needs)
+    (λ c κs. search needs)
+    (λ c. search needs)
+    (λ c κs. (search needs, omega (arith, area-room _ (c .before .before .before .before .before .pre))))
+    (λ c. search needs)
+    (λ c κs. search needs)
+    (λ c κs. search needs)
     returns
     returns-2)

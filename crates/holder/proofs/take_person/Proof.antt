@@ -1,46 +1,9 @@
-use lib.Dec.{lit≤}
 use Rattle.rows.specs.inner.Line.{taken, _▸_}
 use Rattle.rows.specs.table.Holder.{holder}
 use Rattle.holder.proofs.Letters.{letters-took}
 use borrow.Author.Needs.{needs}
 use Rattle.holder.proofs.take_person.Statement.{statement}
 use Rattle.holder.proofs.take_person.Tie as tie
-
-number-requires : tie.Need-number-requires
-number-requires c κs = search needs
-
-number-requires-2 : tie.Need-number-requires-2
-number-requires-2 c κs = (c .number .ensures .ready, lit≤ tt)
-
-slice-aggregate-text : tie.Need-slice-aggregate-text
-slice-aggregate-text c = search needs
-
-text-requires : tie.Need-text-requires
-text-requires c κs = (c .before .number2 .ensures .ready, lit≤ tt)
-
-slice-aggregate-text-2 : tie.Need-slice-aggregate-text-2
-slice-aggregate-text-2 c = search needs
-
-text-requires-2 : tie.Need-text-requires-2
-text-requires-2 c κs = (c .before .before .text .ensures .ready, lit≤ tt)
-
-number-requires-3 : tie.Need-number-requires-3
-number-requires-3 c κs = (c .before .text2 .ensures .ready, lit≤ tt)
-
-number-requires-4 : tie.Need-number-requires-4
-number-requires-4 c κs = (c .number3 .ensures .ready, lit≤ tt)
-
-slice-aggregate-text-3 : tie.Need-slice-aggregate-text-3
-slice-aggregate-text-3 c = search needs
-
-text-requires-3 : tie.Need-text-requires-3
-text-requires-3 c κs = (c .before .number4 .ensures .ready, lit≤ tt)
-
-slice-aggregate-text-4 : tie.Need-slice-aggregate-text-4
-slice-aggregate-text-4 c = search needs
-
-text-requires-4 : tie.Need-text-requires-4
-text-requires-4 c κs = (c .before .before .text3 .ensures .ready, lit≤ tt)
 
 returns : tie.Need-returns
 unfolding holder
@@ -63,16 +26,16 @@ pub take-person-spec : {M : Type 1} → statement M
 take-person-spec =
     tie.close
     (tie.spec
-    number-requires
-    number-requires-2
-    slice-aggregate-text
-    text-requires
-    slice-aggregate-text-2
-    text-requires-2
-    number-requires-3
-    number-requires-4
-    slice-aggregate-text-3
-    text-requires-3
-    slice-aggregate-text-4
-    text-requires-4
+    (λ c κs. search needs)
+    (λ c κs. search needs)
+    (λ c. search needs)
+    (λ c κs. search needs)
+    (λ c. search needs)
+    (λ c κs. search needs)
+    (λ c κs. search needs)
+    (λ c κs. search needs)
+    (λ c. search needs)
+    (λ c κs. search needs)
+    (λ c. search needs)
+    (λ c κs. search needs)
     returns)

@@ -1,6 +1,6 @@
 -- What the steps of a Holder's reader and writer give.
 use Prim.Native.Nat.{ℕ}
-use mathlib.Core.List.{List, [], _∷_, _++_}
+use mathlib.Core.List.{List, [], _∷_}
 use lib.ListN.{take, drop}
 use Rattle.rows.specs.Row.{Row}
 use Rattle.rows.specs.inner.Step.{Took, Gave}
@@ -8,55 +8,11 @@ use Rattle.rows.specs.table.Holder.{holder}
 use Rattle.rows.specs.declared.Cursor.{Cursor}
 use Rattle.rows.specs.declared.When.the-variants.{Bit, Above}
 use Rattle.rows.specs.declared.Rule.the-variants.{Any}
-use Rattle.records.specs.Answer.{from}
-use Rattle.holder.specs.Holder.{profileNumbers}
-use Rattle.holder.specs.declared.Person.{Person}
-use Rattle.holder.specs.declared.Identity.{Identity}
 use Rattle.holder.specs.declared.Profile.{Profile}
-use Rattle.holder.specs.declared.Data.{Data}
 
 -- The n rows from row i on.
 abbrev pub block : ℕ → ℕ → List Row
 block i n = take n (drop i holder)
-
--- The numbers of the parts that are taken together.
-abbrev pub personNumbers : Person → List ℕ
-personNumbers p =
-    p .bitmap
-    ∷ p .«name_bitmap»
-    ∷ from 0 17 (p .surname)
-    ++ (from 0 17 (p .forename)
-    ++ (p .«birth_bitmap»
-    ∷ p .«birth_date»
-    ∷ from 0 23 (p .«birth_place»)
-    ++ from 0 17 (p .«birth_name»)))
-
-abbrev pub identityNumbers : Identity → List ℕ
-identityNumbers i = i .id ∷ i .country ∷ i .company ∷ i .«profile_count» ∷ []
-
-abbrev pub dataNumbers : Data → List ℕ
-dataNumbers d =
-    d .«data_bitmap»
-    ∷ d .«card_status»
-    ∷ d .telepayment
-    ∷ d .residence
-    ∷ d .«commercial_id»
-    ∷ d .«work_place»
-    ∷ d .«study_place»
-    ∷ d .«sale_device»
-    ∷ d .authenticator
-    ∷ d .start1
-    ∷ d .start2
-    ∷ d .start3
-    ∷ d .start4
-    ∷ []
-
--- The parts one behind the other.
-abbrev pub partsNumbers : Person → Identity → Profile → Profile → Profile → Profile → Data → List ℕ
-partsNumbers p i a b c d e =
-    personNumbers p
-    ++ (identityNumbers i
-    ++ (profileNumbers a ++ (profileNumbers b ++ (profileNumbers c ++ (profileNumbers d ++ dataNumbers e)))))
 
 -- What the takes of profile k give, after a profile count: its four steps.
 pub record ProfileTook (words : List ℕ) (end : ℕ) (c : Cursor) (count k : ℕ) (p : Profile) (d : Cursor) : Type 0 where
