@@ -110,6 +110,10 @@ namedBy {o} a = place (a .blocked) (o .n) (o .c) (o .counter) (counted (a .l))
 abbrev pub entriesAfter : {o : Order} {list file : List ℕ} {lent : Lent} → AllRead o list file lent → List Entry
 entriesAfter {o} a = afterwards (newEntry o (namedBy a)) (counted (a .l))
 
+-- The writing of the list afterwards.
+abbrev listAfter : {o : Order} {list file : List ℕ} {lent : Lent} → AllRead o list file lent → Written
+listAfter {o} {list} a = listWritten (o .n) (listing (entriesAfter a)) list
+
 attempted-got : (n : ℕ) (list : List ℕ) (l : ContractList) → attempted (listRead n list) ≡ got l → listRead n list ≡ gotList l
 attempted-got n list l = go (eqb (listRead n list .refusal .number) 0) refl
   where
@@ -186,7 +190,7 @@ new-good o p fits few =
 
 -- The list afterwards is written, or it does not fit.
 list-or-two : {o : Order} {list file : List ℕ} {lent : Lent} (a : AllRead o list file lent) → (namedBy a ≡ 0 → ⊥)
-    → listWritten (o .n) (listing (entriesAfter a)) list .answer ≡ pick (leb (listBits (entriesAfter a)) 232) (refusal 0 0) (refusal 2 (pastRecord (entriesAfter a)))
+    → listAfter a .answer ≡ pick (leb (listBits (entriesAfter a)) 232) (refusal 0 0) (refusal 2 (pastRecord (entriesAfter a)))
 list-or-two {o} {list} a some =
     let p : ℕ = namedBy a in
     let es : List Entry = counted (a .l) in
@@ -245,7 +249,7 @@ module _ (o : Order) (list file : List ℕ) (lent : Lent) where
       go (halted r why) = comes-within (faulty r why) refl
       go (nowhere a none) = stops (refusal 9 0) refl refl
       go (somewhere a some) =
-          stores (namedBy a) (pastRecord (entriesAfter a)) _ (placed (namedBy a) (lent .new) file) (leb (listBits (entriesAfter a)) 232) (list-or-two a some)
+          stores (namedBy a) (pastRecord (entriesAfter a)) (listAfter a) (placed (namedBy a) (lent .new) file) (leb (listBits (entriesAfter a)) 232) (list-or-two a some)
 
   -- Refused, both are as they were, and the pointer is 0.
   pub refused-unchanged : (out .answer .refusal .number ≡ 0 → ⊥) → (out .list ≡ list) × (out .file ≡ file) × (out .answer .pointer ≡ 0)
@@ -339,7 +343,7 @@ module _ (o : Order) (list file : List ℕ) (lent : Lent) where
       go (nowhere a none) h = (a, none)
       go (somewhere a some) h =
           let fits : Bool = leb (listBits (entriesAfter a)) 232 in
-          absurd (zero-or-two fits _ _ _ (answers list file (namedBy a) (pastRecord (entriesAfter a)) _ (placed (namedBy a) (lent .new) file) fits (list-or-two a some)) h)
+          absurd (zero-or-two fits _ _ _ (answers list file (namedBy a) (pastRecord (entriesAfter a)) (listAfter a) (placed (namedBy a) (lent .new) file) fits (list-or-two a some)) h)
 
   pub none-nine : (a : AllRead o list file lent) → namedBy a ≡ 0 → out ≡ loaded (refusal 9 0) 0 list file
   unfolding loading
