@@ -1,12 +1,10 @@
 -- A text's letters by name, so that the slots behind them can still be counted.
 use Prim.Native.Nat.{ℕ}
 use mathlib.Core.List.{List, [], _∷_}
-use mathlib.Core.Path.{_≡_, refl, _∙_}
+use mathlib.Core.Path.{_≡_, refl}
 use native.Mathlib.Omega.{arith}
 use lib.ListN.{length, getD, replicate}
-use Rattle.rows.specs.Row.{Row}
 use Rattle.rows.specs.inner.Step.{Took, Gave}
-use Rattle.rows.specs.inner.Line.{Puts, given, _◂_}
 use Rattle.rows.specs.declared.Cursor.{Cursor}
 use Rattle.rows.specs.declared.When.{When}
 use Rattle.rows.specs.declared.Rule.the-variants.{Any}
@@ -27,13 +25,6 @@ pub letters-gave : {xs ys : List ℕ} {room : ℕ} {c : Cursor} {t : When} {lett
     → Gave xs ys room c t (replicate (length letters) 5) Any letters d
     → Gave xs ys room c t (replicate n 5) Any (from 0 n letters) d
 letters-gave {letters} n long gave = rw (from-all n letters long) (rw long at gave)
-
--- Puts leave the draft's length as it is.
-pub puts-long : {room : ℕ} {vals : List ℕ} {rows : List Row} {seen xs : List ℕ} {c : Cursor} {all ys : List ℕ} {d : Cursor}
-    → Puts room vals rows seen xs c all ys d
-    → length ys ≡ length xs
-puts-long given = refl
-puts-long (gave ◂ rest) = puts-long rest ∙ gave .long
 
 -- Four profiles are those four.
 four : (none : Profile) (l : List Profile) → length l ≡ 4 → getD l 0 none ∷ getD l 1 none ∷ getD l 2 none ∷ getD l 3 none ∷ [] ≡ l

@@ -125,6 +125,13 @@ pub takes-append : {words : List ℕ} {end : ℕ} {rows more : List Row} {seen :
 takes-append taken rest = rest
 takes-append (took ▸ others) rest = took ▸ takes-append others rest
 
+-- Puts leave a draft as long as it was.
+pub puts-long : {room : ℕ} {vals : List ℕ} {rows : List Row} {seen xs : List ℕ} {c : Cursor} {all ys : List ℕ} {d : Cursor}
+    → Puts room vals rows seen xs c all ys d
+    → length ys ≡ length xs
+puts-long given = refl
+puts-long (gave ◂ rest) = puts-long rest ∙ gave .long
+
 -- Two lines of puts are one.
 pub puts-append : {room : ℕ} {vals : List ℕ} {rows more : List Row} {seen xs : List ℕ} {c : Cursor} {some ys : List ℕ} {d : Cursor} {all zs : List ℕ} {e : Cursor}
     → Puts room vals rows seen xs c some ys d

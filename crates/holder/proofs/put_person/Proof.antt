@@ -1,8 +1,9 @@
 use Rattle.rows.specs.inner.Line.{given, _◂_}
 use Rattle.rows.specs.table.Holder.{holder}
+use Rattle.rows.proofs.Running.{puts-long}
 use lib.Dec.{lit≤}
 use Rattle.holder.specs.Holder.{Spelled}
-use Rattle.holder.proofs.Letters.{letters-gave, puts-long}
+use Rattle.holder.proofs.Letters.{letters-gave}
 use borrow.Author.Needs.{needs}
 use Rattle.holder.proofs.put_person.Statement.{statement}
 use Rattle.holder.proofs.put_person.Tie as tie

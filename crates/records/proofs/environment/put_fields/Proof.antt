@@ -1,21 +1,9 @@
-use mathlib.Core.Path.{_∙_}
 use Rattle.rows.specs.inner.Line.{given, _◂_}
 use Rattle.rows.specs.table.Environment.{environment}
 use borrow.Author.Needs.{needs}
+use Rattle.rows.proofs.Running.{puts-long}
 use Rattle.records.proofs.environment.put_fields.Statement.{statement}
 use Rattle.records.proofs.environment.put_fields.Tie as tie
-
-same-length : tie.Need-same-length
-same-length c = c .before .before .number9 .kept .0
-    ∙ c .before .before .before .before .before .before .env-data .kept .0
-    ∙ c .before .before .before .before .before .before .before .before .before .before .number8 .kept .0
-    ∙ c .before .before .before .before .before .before .before .before .before .before .before .before .before .before .number7 .kept .0
-    ∙ c .before .before .before .before .before .before .before .before .before .before .before .before .before .before .before .before .before .before .number6 .kept .0
-    ∙ c .before .before .before .before .before .before .before .before .before .before .before .before .before .before .before .before .before .before .before .before .before .before .number5 .kept .0
-    ∙ c .before .before .before .before .before .before .before .before .before .before .before .before .before .before .before .before .before .before .before .before .before .before .before .before .before .before .number4 .kept .0
-    ∙ c .before .before .before .before .before .before .before .before .before .before .before .before .before .before .before .before .before .before .before .before .before .before .before .before .before .before .before .before .before .before .number3 .kept .0
-    ∙ c .before .before .before .before .before .before .before .before .before .before .before .before .before .before .before .before .before .before .before .before .before .before .before .before .before .before .before .before .before .before .before .before .before .before .number2 .kept .0
-    ∙ c .before .before .before .before .before .before .before .before .before .before .before .before .before .before .before .before .before .before .before .before .before .before .before .before .before .before .before .before .before .before .before .before .before .before .before .before .before .before .number .kept .0
 
 returns : tie.Need-returns
 unfolding environment
@@ -46,5 +34,5 @@ put-fields-spec =
     (λ c κs. search needs)
     (λ c κs. search needs)
     (λ c κs. search needs)
-    same-length
+    (λ c. puts-long (returns c))
     returns)

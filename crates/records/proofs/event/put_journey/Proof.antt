@@ -1,26 +1,13 @@
 use borrow.Author.Needs.{needs}
-use mathlib.Core.Path.{_∙_}
 use lib.Dec.{lit≤}
 use Rattle.rows.specs.table.Event.{event}
 use Rattle.rows.proofs.Putting.{all-put, _◃_, puts-from}
+use Rattle.rows.proofs.Running.{puts-long}
 use Rattle.records.proofs.event.put_journey.Statement.{statement}
 use Rattle.records.proofs.event.put_journey.Tie as tie
 
 number-requires-9 : tie.Need-number-requires-9
 number-requires-9 c κs = (c .before .never .ensures _ (c .before .before .before .before .number8 .ensures .ready .longer) .ready, lit≤ tt)
-
-same-length : tie.Need-same-length
-same-length c = c .before .before .number11 .kept .0
-    ∙ c .before .before .before .before .before .before .number10 .kept .0
-    ∙ c .before .before .before .before .before .before .before .before .before .before .number9 .kept .0
-    ∙ c .before .before .before .before .before .before .before .before .before .before .before .before .before .before .before .number8 .kept .0
-    ∙ c .before .before .before .before .before .before .before .before .before .before .before .before .before .before .before .before .before .before .before .number7 .kept .0
-    ∙ c .before .before .before .before .before .before .before .before .before .before .before .before .before .before .before .before .before .before .before .before .before .before .before .number6 .kept .0
-    ∙ c .before .before .before .before .before .before .before .before .before .before .before .before .before .before .before .before .before .before .before .before .before .before .before .before .before .before .before .number5 .kept .0
-    ∙ c .before .before .before .before .before .before .before .before .before .before .before .before .before .before .before .before .before .before .before .before .before .before .before .before .before .before .before .before .before .before .before .number4 .kept .0
-    ∙ c .before .before .before .before .before .before .before .before .before .before .before .before .before .before .before .before .before .before .before .before .before .before .before .before .before .before .before .before .before .before .before .before .before .before .before .number3 .kept .0
-    ∙ c .before .before .before .before .before .before .before .before .before .before .before .before .before .before .before .before .before .before .before .before .before .before .before .before .before .before .before .before .before .before .before .before .before .before .before .before .before .before .before .number2 .kept .0
-    ∙ c .before .before .before .before .before .before .before .before .before .before .before .before .before .before .before .before .before .before .before .before .before .before .before .before .before .before .before .before .before .before .before .before .before .before .before .before .before .before .before .before .before .before .before .number .kept .0
 
 returns : tie.Need-returns
 unfolding event
@@ -61,5 +48,5 @@ put-journey-spec =
     number-requires-9
     (λ c κs. search needs)
     (λ c κs. search needs)
-    same-length
+    (λ c. puts-long (returns c .puts))
     returns)
