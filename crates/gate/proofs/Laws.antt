@@ -252,9 +252,10 @@ found-bits : (present wanted before : List ℕ) → finding present wanted befor
 found-bits present wanted before h =
     let (long, long′, long″, none) = found-none-falls present wanted before h in
     let missing : List Bool = only (spread 8 wanted) (spread 8 present) in
-    let found = ap (λ (w : Written). w .bytes) (none-falls-found present wanted before long long′ long″ none) in
-    (ap length found ∙ length-cut 8 8 29 missing,
-    ap (spread 8) found ∙ spread-cut 8 29 missing (length-only (spread 8 wanted) (spread 8 present) ∙ record-bits wanted long′))
+    let found = ap (λ (w : Written). w .bytes) (none-falls-found present wanted before long long′ long″ none) in (
+      ap length found ∙ length-cut 8 8 29 missing,
+      ap (spread 8) found ∙ spread-cut 8 29 missing (length-only (spread 8 wanted) (spread 8 present) ∙ record-bits wanted long′),
+    )
 
 -- A found write has a one exactly where wanted has and present has not.
 pub found-only-missing : (present wanted before : List ℕ) (i : ℕ) → finding present wanted before .answer .number ≡ 0
@@ -284,10 +285,18 @@ finds-joined a b c x y z h k room =
     let (second′, third, rest′, none′) = found-none-falls b c y k in
     let (size, bits) = found-bits a b x h in
     let (size′, bits′) = found-bits b c y k in
-    let found = none-falls-found a c z first third room (λ i e. none′ i (none i e)) in
-    (ap (λ (w : Written). w .answer .number) found,
-    rw (eq-eqb _ _ size, eq-eqb _ _ size′, eq-eqb _ _ room, bits, bits′,
-    missing-joined (spread 8 a) (spread 8 b) (spread 8 c) (equal-bits a b first second) (equal-bits a c first third) none none′, found))
+    let found = none-falls-found a c z first third room (λ i e. none′ i (none i e)) in (
+      ap (λ (w : Written). w .answer .number) found,
+      rw (
+        eq-eqb _ _ size,
+        eq-eqb _ _ size′,
+        eq-eqb _ _ room,
+        bits,
+        bits′,
+        missing-joined (spread 8 a) (spread 8 b) (spread 8 c) (equal-bits a b first second) (equal-bits a c first third) none none′,
+        found,
+      ),
+    )
 
 -- The refusals of each call.
 pub apply-comes : (before writes : List ℕ) → ComesTo accepted (unwritten before) (1 ∷ 11 ∷ []) (applying before writes)
