@@ -1,4 +1,4 @@
-use borrow.Author.Needs.{needs}
+use lib.Dec.{lit≤}
 use Rattle.rows.specs.inner.Line.{given, _◂_}
 use Rattle.rows.specs.table.Contract.{data42}
 use Rattle.contract.specs.Contract.{headOf}
@@ -25,14 +25,14 @@ pub put-carnet-spec : {M : Type 1} → statement M
 put-carnet-spec =
     tie.close
     (tie.spec
-    (λ c κs. search needs)
-    (λ c κs. search needs)
-    (λ c κs. search needs)
-    (λ c κs. search needs)
-    (λ c κs. search needs)
-    (λ c κs. search needs)
-    (λ c κs. search needs)
-    (λ c κs. search needs)
-    (λ c κs. search needs)
+    (λ c κs. search lit≤)
+    (λ c κs. search lit≤)
+    (λ c κs. search lit≤)
+    (λ c κs. search lit≤)
+    (λ c κs. search lit≤)
+    (λ c κs. search lit≤)
+    (λ c κs. search lit≤)
+    (λ c κs. search lit≤)
+    (λ c κs. search lit≤)
     (λ c. puts-long (returns c (headOf [])))
     returns)

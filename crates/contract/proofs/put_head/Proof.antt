@@ -1,3 +1,4 @@
+use lib.Dec.{lit≤}
 use Rattle.rows.specs.inner.Line.{given, _◂_}
 use Rattle.rows.specs.table.Contract.{head}
 use borrow.Author.Needs.{needs}
@@ -28,13 +29,13 @@ put-head-spec =
     tie.close
     (tie.spec
     (λ c κs. search needs)
-    (λ c κs. search needs)
-    (λ c κs. search needs)
-    (λ c κs. search needs)
-    (λ c κs. search needs)
-    (λ c κs. search needs)
-    (λ c κs. search needs)
-    (λ c κs. search needs)
-    (λ c κs. search needs)
+    (λ c κs. search lit≤)
+    (λ c κs. search lit≤)
+    (λ c κs. search lit≤)
+    (λ c κs. search lit≤)
+    (λ c κs. search lit≤)
+    (λ c κs. search lit≤)
+    (λ c κs. search lit≤)
+    (λ c κs. search lit≤)
     (λ c. puts-long (returns c [] .puts))
     returns)

@@ -1,4 +1,4 @@
-use borrow.Author.Needs.{needs}
+use lib.Dec.{lit≤}
 use Rattle.rows.specs.inner.Line.{taken, _▸_}
 use Rattle.rows.specs.table.Contract.{data50}
 use Rattle.contract.proofs.take_stops.Statement.{statement}
@@ -22,10 +22,10 @@ pub take-stops-spec : {M : Type 1} → statement M
 take-stops-spec =
     tie.close
     (tie.spec
-    (λ c κs. search needs)
-    (λ c κs. search needs)
-    (λ c κs. search needs)
-    (λ c κs. search needs)
-    (λ c κs. search needs)
-    (λ c κs. search needs)
+    (λ c κs. search lit≤)
+    (λ c κs. search lit≤)
+    (λ c κs. search lit≤)
+    (λ c κs. search lit≤)
+    (λ c κs. search lit≤)
+    (λ c κs. search lit≤)
     returns)

@@ -1,4 +1,4 @@
-use borrow.Author.Needs.{needs}
+use lib.Dec.{lit≤}
 use Rattle.rows.specs.inner.Line.{taken, _▸_}
 use Rattle.rows.specs.table.Contract.{data50}
 use Rattle.contract.proofs.take_zones.Statement.{statement}
@@ -23,11 +23,11 @@ pub take-zones-spec : {M : Type 1} → statement M
 take-zones-spec =
     tie.close
     (tie.spec
-    (λ c κs. search needs)
-    (λ c κs. search needs)
-    (λ c κs. search needs)
-    (λ c κs. search needs)
-    (λ c κs. search needs)
-    (λ c κs. search needs)
-    (λ c κs. search needs)
+    (λ c κs. search lit≤)
+    (λ c κs. search lit≤)
+    (λ c κs. search lit≤)
+    (λ c κs. search lit≤)
+    (λ c κs. search lit≤)
+    (λ c κs. search lit≤)
+    (λ c κs. search lit≤)
     returns)

@@ -1,3 +1,4 @@
+use lib.Dec.{lit≤}
 use Prim.Native.Nat.{ℕ}
 use mathlib.Core.List.{List}
 use Rattle.rows.specs.inner.Line.{Puts, given, _◂_}
@@ -6,7 +7,6 @@ use Rattle.rows.proofs.Running.{puts-append, puts-long}
 use Rattle.records.specs.Answer.{from}
 use Rattle.holder.specs.Holder.{numbersOf}
 use Rattle.holder.specs.inner.Steps.{block}
-use borrow.Author.Needs.{needs}
 use Rattle.holder.proofs.put_data.Statement.{statement}
 use Rattle.holder.proofs.put_data.Tie as tie
 
@@ -37,18 +37,18 @@ pub put-data-spec : {M : Type 1} → statement M
 put-data-spec =
     tie.close
     (tie.spec
-    (λ c κs. search needs)
-    (λ c κs. search needs)
-    (λ c κs. search needs)
-    (λ c κs. search needs)
-    (λ c κs. search needs)
-    (λ c κs. search needs)
-    (λ c κs. search needs)
-    (λ c κs. search needs)
-    (λ c κs. search needs)
-    (λ c κs. search needs)
-    (λ c κs. search needs)
-    (λ c κs. search needs)
-    (λ c κs. search needs)
+    (λ c κs. search lit≤)
+    (λ c κs. search lit≤)
+    (λ c κs. search lit≤)
+    (λ c κs. search lit≤)
+    (λ c κs. search lit≤)
+    (λ c κs. search lit≤)
+    (λ c κs. search lit≤)
+    (λ c κs. search lit≤)
+    (λ c κs. search lit≤)
+    (λ c κs. search lit≤)
+    (λ c κs. search lit≤)
+    (λ c κs. search lit≤)
+    (λ c κs. search lit≤)
     (λ c. puts-long (returns c .puts))
     returns)

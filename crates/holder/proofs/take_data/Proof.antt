@@ -1,6 +1,6 @@
+use lib.Dec.{lit≤}
 use Rattle.rows.specs.inner.Line.{taken, _▸_}
 use Rattle.rows.specs.table.Holder.{holder}
-use borrow.Author.Needs.{needs}
 use Rattle.holder.proofs.take_data.Statement.{statement}
 use Rattle.holder.proofs.take_data.Tie as tie
 
@@ -30,17 +30,17 @@ pub take-data-spec : {M : Type 1} → statement M
 take-data-spec =
     tie.close
     (tie.spec
-    (λ c κs. search needs)
-    (λ c κs. search needs)
-    (λ c κs. search needs)
-    (λ c κs. search needs)
-    (λ c κs. search needs)
-    (λ c κs. search needs)
-    (λ c κs. search needs)
-    (λ c κs. search needs)
-    (λ c κs. search needs)
-    (λ c κs. search needs)
-    (λ c κs. search needs)
-    (λ c κs. search needs)
-    (λ c κs. search needs)
+    (λ c κs. search lit≤)
+    (λ c κs. search lit≤)
+    (λ c κs. search lit≤)
+    (λ c κs. search lit≤)
+    (λ c κs. search lit≤)
+    (λ c κs. search lit≤)
+    (λ c κs. search lit≤)
+    (λ c κs. search lit≤)
+    (λ c κs. search lit≤)
+    (λ c κs. search lit≤)
+    (λ c κs. search lit≤)
+    (λ c κs. search lit≤)
+    (λ c κs. search lit≤)
     returns)

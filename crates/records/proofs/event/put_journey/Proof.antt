@@ -1,4 +1,3 @@
-use borrow.Author.Needs.{needs}
 use lib.Dec.{lit≤}
 use Rattle.rows.specs.table.Event.{event}
 use Rattle.rows.proofs.Putting.{all-put, _◃_, puts-from}
@@ -36,17 +35,17 @@ pub put-journey-spec : {M : Type 1} → statement M
 put-journey-spec =
     tie.close
     (tie.spec
-    (λ c κs. search needs)
-    (λ c κs. search needs)
-    (λ c κs. search needs)
-    (λ c κs. search needs)
-    (λ c κs. search needs)
-    (λ c κs. search needs)
-    (λ c κs. search needs)
-    (λ c κs. search needs)
-    (λ c κs. search needs)
+    (λ c κs. search lit≤)
+    (λ c κs. search lit≤)
+    (λ c κs. search lit≤)
+    (λ c κs. search lit≤)
+    (λ c κs. search lit≤)
+    (λ c κs. search lit≤)
+    (λ c κs. search lit≤)
+    (λ c κs. search lit≤)
+    (λ c κs. search lit≤)
     number-requires-9
-    (λ c κs. search needs)
-    (λ c κs. search needs)
+    (λ c κs. search lit≤)
+    (λ c κs. search lit≤)
     (λ c. puts-long (returns c .puts))
     returns)

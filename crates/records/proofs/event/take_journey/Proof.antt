@@ -1,4 +1,3 @@
-use borrow.Author.Needs.{needs}
 use lib.Dec.{lit≤}
 use Rattle.rows.specs.inner.Line.{taken, _▸_}
 use Rattle.rows.specs.table.Event.{event}
@@ -33,16 +32,16 @@ pub take-journey-spec : {M : Type 1} → statement M
 take-journey-spec =
     tie.close
     (tie.spec
-    (λ c κs. search needs)
-    (λ c κs. search needs)
-    (λ c κs. search needs)
-    (λ c κs. search needs)
-    (λ c κs. search needs)
-    (λ c κs. search needs)
-    (λ c κs. search needs)
-    (λ c κs. search needs)
-    (λ c κs. search needs)
+    (λ c κs. search lit≤)
+    (λ c κs. search lit≤)
+    (λ c κs. search lit≤)
+    (λ c κs. search lit≤)
+    (λ c κs. search lit≤)
+    (λ c κs. search lit≤)
+    (λ c κs. search lit≤)
+    (λ c κs. search lit≤)
+    (λ c κs. search lit≤)
     number-requires-9
-    (λ c κs. search needs)
-    (λ c κs. search needs)
+    (λ c κs. search lit≤)
+    (λ c κs. search lit≤)
     returns)

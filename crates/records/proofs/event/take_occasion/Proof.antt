@@ -1,3 +1,4 @@
+use lib.Dec.{lit≤}
 use Rattle.rows.specs.inner.Line.{taken, _▸_}
 use Rattle.rows.specs.table.Event.{event}
 use borrow.Author.Needs.{needs}
@@ -30,15 +31,15 @@ take-occasion-spec =
     tie.close
     (tie.spec
     (λ c κs. search needs)
-    (λ c κs. search needs)
-    (λ c κs. search needs)
-    (λ c κs. search needs)
-    (λ c κs. search needs)
-    (λ c κs. search needs)
-    (λ c κs. search needs)
-    (λ c κs. search needs)
-    (λ c κs. search needs)
-    (λ c κs. search needs)
-    (λ c κs. search needs)
-    (λ c κs. search needs)
+    (λ c κs. search lit≤)
+    (λ c κs. search lit≤)
+    (λ c κs. search lit≤)
+    (λ c κs. search lit≤)
+    (λ c κs. search lit≤)
+    (λ c κs. search lit≤)
+    (λ c κs. search lit≤)
+    (λ c κs. search lit≤)
+    (λ c κs. search lit≤)
+    (λ c κs. search lit≤)
+    (λ c κs. search lit≤)
     returns)
