@@ -8,8 +8,8 @@ use native.Mathlib.Nat.{add-zero}
 use native.Mathlib.Numerals.{add-one}
 use borrow.Author.Tests.{eq-eqb, ne-eqb, eqb-true, eqb-false}
 use lib.Bits.{bitOr, or-step, or-add-and, and-le-l}
-use lib.ListN.{length, getD, take, drop, set, length-drop}
-use lib.Seq.{take-suc, take-suc-set, drop-set-lt, take-all, getD-drop, drop-drop, length-take-le}
+use lib.ListN.{length, getD, take, drop, set}
+use lib.Seq.{take-suc, take-suc-set, drop-set-lt, take-all, getD-drop, drop-drop}
 use Rattle.bits.specs.Bits.{odd, bitsOf, bitsOn, spread, cut, join}
 use Rattle.bits.proofs.Cutting.{cut-spread}
 use Rattle.bits.proofs.Spelling.{length-bits-of}
@@ -173,11 +173,6 @@ applied-more old now writes n k h so =
 -- Write k of n is 29 bytes.
 pub part-size : (k : ℕ) → 29 * k + 29 - 29 * k ≡ 29
 part-size k = omega arith
-
-pub part-length : (writes : List ℕ) (n k : ℕ) → k < n → length writes ≡ 29 * n → length (take (29 * k + 29 - 29 * k) (drop (29 * k) writes)) ≡ 29
-part-length writes n k h long =
-    let room : 29 ≤ length (drop (29 * k) writes) = rw (length-drop (29 * k) writes) (omega arith) in
-    rw (part-size k) (length-take-le 29 (drop (29 * k) writes) room)
 
 pub length-only : (xs ys : List Bool) → length (only xs ys) ≡ length xs
 length-only [] ys = refl
