@@ -7,12 +7,12 @@ use native.Mathlib.Omega.{arith}
 use native.Mathlib.Numerals.{add-one}
 use native.Mathlib.Nat.{mul-zero, mul-suc, add-comm}
 use lib.Pow.{pow-pos}
-use lib.ListN.{length, getD, set, take, drop, length-append, length-drop, take-append-drop}
+use lib.ListN.{length, getD, set, take, drop, length-append, length-drop, length-set, take-append-drop}
 use lib.Seq.{drop-drop, drop-at, ext-getD, length-take-le, take-all, take-append-le, take-suc, take-suc-set}
 use Rattle.bits.specs.Bits.{number, zeros, spread, cut, bitsOf}
 use Rattle.bits.specs.inner.Words.{numberAt}
 use Rattle.bits.proofs.Spelling.{length-bits-of, number-bits-of, bits-of-number}
-use Rattle.bits.proofs.Fronts.{front-padded, front-at, part, part-lt, part-part, part-past, part-pad, part-take}
+use Rattle.bits.proofs.Fronts.{front-padded, front-at, part, part-add, part-lt, part-part, part-past, part-pad, part-take}
 
 pub length-cut : (step w n : ℕ) (bs : List Bool) → length (cut step w n bs) ≡ n
 length-cut step w zero bs = refl
@@ -46,13 +46,13 @@ pub cut-part : (step s n : ℕ) (bs : List Bool) (xs : List ℕ) → xs ≡ cut 
 cut-part step s n bs xs c i o w r at h e f = rw (c, cut-at step s n i bs h, part-part o w r s (step * i) bs e, f)
 
 -- The number in some bits, taken from the words: zeros past the end, or within the bits.
-pub part-at : (n : ℕ) (bs : List Bool) (words : List ℕ) → words ≡ cut 32 63 n bs → (at w : ℕ) → at / 32 < n → w ≤ 32
+pub part-at : (n : ℕ) (bs : List Bool) (words : List ℕ) → words ≡ cut 32 64 n bs → (at w : ℕ) → at / 32 < n → w ≤ 32
     → numberAt words at w ≡ part w at bs
-part-at n bs words c at w h l = cut-part 32 63 n bs words c (at / 32) (at % 32) w (63 - at % 32 - w) at h (omega arith) (omega arith)
+part-at n bs words c at w h l = cut-part 32 64 n bs words c (at / 32) (at % 32) w (64 - at % 32 - w) at h (omega arith) (omega arith)
 
 pub number-at : (n : ℕ) (bs : List Bool) (at w : ℕ) → at / 32 < n → w ≤ 32 → at + w ≤ length bs
-    → numberAt (cut 32 63 n bs) at w ≡ number (take w (drop at bs))
-number-at n bs at w h l f = part-at n bs (cut 32 63 n bs) refl at w h l ∙ part-take w at bs f
+    → numberAt (cut 32 64 n bs) at w ≡ number (take w (drop at bs))
+number-at n bs at w h l f = part-at n bs (cut 32 64 n bs) refl at w h l ∙ part-take w at bs f
 
 -- Number i of some that are spread.
 pub part-spread : (w : ℕ) (xs : List ℕ) (i : ℕ) → ((i : ℕ) → getD xs i 0 < 2 ^ w) → part w (w * i) (spread w xs) ≡ getD xs i 0
@@ -80,16 +80,58 @@ cut-pad step w n k bs =
     is-cut step w n (cut step w n (bs ++ zeros k)) bs (length-cut step w n (bs ++ zeros k))
     (λ i h. cut-at step w n i (bs ++ zeros k) h ∙ part-pad w (step * i) k bs)
 
--- A list that is filled from the front with the numbers of a cut: one more, and all.
-pub fill-more : (step w n : ℕ) (bs : List Bool) (xs : List ℕ) (j x : ℕ) → length xs ≡ n → j < n → take j xs ≡ take j (cut step w n bs)
-    → x ≡ part w (step * j) bs → take (j + 1) (set xs j x) ≡ take (j + 1) (cut step w n bs)
-fill-more step w n bs xs j x l h e f =
-    let k : j < length xs = omega arith in
-    let g : j < length (cut step w n bs) = omega (arith, length-cut step w n bs) in
-    rw (add-one, take-suc-set xs j x k, take-suc (cut step w n bs) j 0 g, cut-at step w n j bs h, e, f)
+-- A list that is filled from the front with the numbers of a cut: none yet, one more, and all.
+pub record Filled (step w n : ℕ) (bs : List Bool) (j : ℕ) (xs : List ℕ) : Type 0 where
+  pub long : length xs ≡ n
+  pub same : take j xs ≡ take j (cut step w n bs)
 
-pub fill-all : (step w n : ℕ) (bs : List Bool) (xs : List ℕ) (j : ℕ) → length xs ≡ n → n ≤ j → take j xs ≡ take j (cut step w n bs)
-    → xs ≡ cut step w n bs
-fill-all step w n bs xs j l h e =
+pub filled-none : (step w n : ℕ) (bs : List Bool) (xs : List ℕ) → length xs ≡ n → Filled step w n bs 0 xs
+filled-none step w n bs xs l = record { long = l; same = refl }
+
+pub filled-more : {step w n : ℕ} {bs : List Bool} {j : ℕ} {xs : List ℕ} {x : ℕ} (k : ℕ) → j + 1 ≡ k → Filled step w n bs j xs → j < n → x ≡ part w (step * j) bs
+    → Filled step w n bs k (set xs j x)
+filled-more {step} {w} {n} {bs} {j} {xs} {x} k next filled h e =
+    let i : j < length xs = omega (arith, filled .long) in
+    let g : j < length (cut step w n bs) = omega (arith, length-cut step w n bs) in
+    record {
+      long = simp length-set (filled .long);
+      same = rw (← next, add-one, take-suc-set xs j x i, take-suc (cut step w n bs) j 0 g, cut-at step w n j bs h, filled .same, e);
+    }
+
+pub filled-all : {step w n : ℕ} {bs : List Bool} {j : ℕ} {xs : List ℕ} → Filled step w n bs j xs → n ≤ j → xs ≡ cut step w n bs
+filled-all {step} {w} {n} {bs} {j} {xs} filled h =
     let g : length (cut step w n bs) ≤ j = omega (arith, length-cut step w n bs) in
-    sym (take-all j xs (omega arith)) ∙ e ∙ take-all j (cut step w n bs) g
+    let k : length xs ≤ j = omega (arith, filled .long) in
+    sym (take-all j xs k) ∙ filled .same ∙ take-all j (cut step w n bs) g
+
+-- Numbers of four bytes from byte i on, and of the last byte of a record.
+module _ (xs : List ℕ) (fits : (i : ℕ) → getD xs i 0 < 2 ^ 8) where
+  byte-at : (i at : ℕ) → 8 * i ≡ at → part 8 at (spread 8 xs) ≡ getD xs i 0
+  byte-at i at e = rw e at (part-spread 8 xs i fits)
+
+  pub four-bytes : (i j k l at : ℕ) → i + 1 ≡ j → i + 2 ≡ k → i + 3 ≡ l → 8 * i ≡ at
+      → getD xs i 0 * 2 ^ 24 + getD xs j 0 * 2 ^ 16 + getD xs k 0 * 2 ^ 8 + getD xs l 0 ≡ part 32 at (spread 8 xs)
+  four-bytes i j k l at ej ek el e =
+      omega (
+        arith,
+        part-add 8 24 at (spread 8 xs),
+        part-add 8 16 (at + 8) (spread 8 xs),
+        part-add 8 8 (at + 8 + 8) (spread 8 xs),
+        byte-at i at e,
+        byte-at j (at + 8) (omega arith),
+        byte-at k (at + 8 + 8) (omega arith),
+        byte-at l (at + 8 + 8 + 8) (omega arith),
+      )
+
+  -- The last byte, and zeros.
+  pub last-byte : length xs ≡ 29 → getD xs 28 0 * 2 ^ 24 + 0 * 2 ^ 16 + 0 * 2 ^ 8 + 0 ≡ part 32 224 (spread 8 xs)
+  last-byte l =
+      let past : part 24 232 (spread 8 xs) ≡ 0 = part-past 24 232 (spread 8 xs) (rw (length-spread, l) (omega arith)) in
+      omega (arith, part-add 8 24 224 (spread 8 xs), byte-at 28 224 refl)
+
+-- A word is its two halves; the second one may be zeros.
+pub two-quads : (at mid : ℕ) (bs : List Bool) → at + 32 ≡ mid → part 32 at bs * 2 ^ 32 % 2 ^ 64 + part 32 mid bs ≡ part 64 at bs
+two-quads at mid bs e = omega (arith, rw e at (part-add 32 32 at bs), part-lt 32 at bs)
+
+pub one-quad : (at mid : ℕ) (bs : List Bool) → at + 32 ≡ mid → length bs ≤ mid → part 32 at bs * 2 ^ 32 % 2 ^ 64 ≡ part 64 at bs
+one-quad at mid bs e h = omega (arith, two-quads at mid bs e, part-past 32 mid bs h)

@@ -40,3 +40,11 @@ leading-past zero bs h = omega arith
 leading-past (suc w) [] h = omega arith
 leading-past (suc w) (true ∷ bs) h = absurd (omega arith)
 leading-past (suc w) (false ∷ bs) h = let l = leading-past w bs (omega arith) in omega arith
+
+-- Fewer bits have as few ones.
+pub leading-less : (k w : ℕ) (bs : List Bool) → k ≤ w → w ≤ leading (front w bs) → k ≤ leading (front k bs)
+leading-less zero w bs h l = omega arith
+leading-less (suc k) zero bs h l = absurd (omega arith)
+leading-less (suc k) (suc w) [] h l = omega (arith, leading-none k)
+leading-less (suc k) (suc w) (true ∷ bs) h l = absurd (omega arith)
+leading-less (suc k) (suc w) (false ∷ bs) h l = omega (arith, leading-less k w bs (omega arith) (omega arith))

@@ -2,7 +2,7 @@
 ghost use mathlib.Core.Path.{_≡_};
 ghost use mathlib.Core.Bool.{Bool};
 ghost use mathlib.Core.List.{List, _++_};
-ghost use Prim.Native.Nat.{ℕ, _+_, _*_, _/_, _<_, _≤_, _^_};
+ghost use Prim.Native.Nat.{ℕ, _+_, _*_, _/_, _<_, _≤_, _^_, min};
 ghost use lib.ListN.{length, getD, take, drop};
 ghost use Rattle.bits.specs.Bits.{number, spread, zeros, cut, bitsOf, leading};
 ghost use Rattle.bits.specs.inner.Words.{numberAt};
@@ -14,11 +14,52 @@ fn four(a: u8, b: u8, c: u8, d: u8) -> u64
     ((a as u64) << 24) + ((b as u64) << 16) + ((c as u64) << 8) + d as u64
 }
 
-// Byte i, or zero past the end.
-fn byte(bytes: &[u8], i: usize) -> u8
-    ensures { λ r. ⌜ r ≡ getD (now (bytes .entry)) i 0 ⌝ }
+// Eight bytes from byte i on as one number, high byte first.
+fn eight(bytes: &[u8], i: usize) -> u64
+    requires { ⌜ i + 8 ≤ length (now bytes) ⌝ }
+    ensures { λ r. ⌜ r ≡ number (take 64 (drop (8 * i) (spread 8 (now (bytes .entry))) ++ zeros 64)) ⌝ }
 {
-    if i < bytes.len() { bytes[i] } else { 0 }
+    (four(bytes[i], bytes[i + 1], bytes[i + 2], bytes[i + 3]) << 32)
+        + four(bytes[i + 4], bytes[i + 5], bytes[i + 6], bytes[i + 7])
+}
+
+// The words of a record of 29 bytes, in a straight line. Word j holds the 64 bits from bit 32 × j on, zeros past the end: a
+// number of up to 32 bits that begins in a word's first 32 bits stands whole in it.
+pub fn words(bytes: &[u8], words: &mut [u64; 8])
+    requires { ⌜ (length (now bytes) ≡ 29) × (length (now words) ≡ 8) ⌝ }
+    ensures { λ r. ⌜ now (words .exit) ≡ cut 32 64 8 (spread 8 (now (bytes .entry))) ⌝ }
+{
+    words[0] = eight(bytes, 0);
+    words[1] = eight(bytes, 4);
+    words[2] = eight(bytes, 8);
+    words[3] = eight(bytes, 12);
+    words[4] = eight(bytes, 16);
+    words[5] = eight(bytes, 20);
+    let last = four(bytes[28], 0, 0, 0);
+    words[6] = (four(bytes[24], bytes[25], bytes[26], bytes[27]) << 32) + last;
+    words[7] = last << 32;
+}
+
+// The words of an area of any length.
+pub fn area_words(bytes: &[u8], words: &mut [u64])
+    ensures { λ r. ⌜ now (words .exit) ≡ cut 32 64 (length (now (words .entry))) (spread 8 (now (bytes .entry))) ⌝ }
+{
+    let mut j = 0;
+    while j < words.len() {
+        words[j] = word(bytes, j);
+        j += 1;
+    }
+}
+
+// The word of some bytes from bit 32 × j on, zeros past the end.
+fn word(bytes: &[u8], j: usize) -> u64
+    requires { ⌜ j < 2 ^ 60 ⌝ }
+    ensures { λ r. ⌜ r ≡ number (take 64 (drop (32 * j) (spread 8 (now (bytes .entry))) ++ zeros 64)) ⌝ }
+{
+    if j + 1 < bytes.len() / 4 {
+        return eight(bytes, 4 * j);
+    }
+    (quad(bytes, j) << 32) + quad(bytes, j + 1)
 }
 
 // The 32 bits from bit 32 × j on as one number, zeros past the end.
@@ -27,9 +68,6 @@ fn quad(bytes: &[u8], j: usize) -> u64
     ensures { λ r. ⌜ r ≡ number (take 32 (drop (32 * j) (spread 8 (now (bytes .entry))) ++ zeros 32)) ⌝ }
 {
     let i = 4 * j;
-    if j < bytes.len() / 4 {
-        return four(bytes[i], bytes[i + 1], bytes[i + 2], bytes[i + 3]);
-    }
     four(
         byte(bytes, i),
         byte(bytes, i + 1),
@@ -38,42 +76,46 @@ fn quad(bytes: &[u8], j: usize) -> u64
     )
 }
 
-// The words of some bytes. Word j holds the 63 bits from bit 32 × j on, zeros past the end: a number of up to 32 bits
-// that begins in a word's first 32 bits stands whole in it.
-pub fn words(bytes: &[u8], words: &mut [u64])
-    ensures { λ r. ⌜ now (words .exit) ≡ cut 32 63 (length (now (words .entry))) (spread 8 (now (bytes .entry))) ⌝ }
+// Byte i, or zero past the end.
+fn byte(bytes: &[u8], i: usize) -> u8
+    ensures { λ r. ⌜ r ≡ getD (now (bytes .entry)) i 0 ⌝ }
 {
-    let mut high = quad(bytes, 0);
-    let mut j = 0;
-    while j < words.len() {
-        let low = quad(bytes, j + 1);
-        words[j] = (high << 31) + (low >> 1);
-        high = low;
-        j += 1;
-    }
+    if i < bytes.len() { bytes[i] } else { 0 }
 }
 
-// The number in the w bits from bit at on: one load, a shift and a mask.
+// The number in the w bits from bit at on: one load and three shifts.
 pub fn number(words: &[u64], at: u32, w: u32) -> u32
     requires { ⌜ (at / 32 < length (now words)) × (w ≤ 32) ⌝ }
     ensures { λ r. ⌜ r ≡ numberAt (now (words .entry)) at w ⌝ }
 {
     let word = words[(at / 32) as usize];
-    ((word >> (63 - at % 32 - w)) % (1u64 << w)) as u32
+    (((word << (at % 32)) >> 32) >> (32 - w)) as u32
 }
 
 // The place of the first one from bit at on, or the end.
 pub fn next_one(words: &[u64], end: u32, at: u32) -> u32
-    requires { ⌜ (at ≤ end) × ((end ≤ 32 * length (now words)) × (end < 65536)) ⌝ }
-    ensures { λ r. ⌜ ((bs : List Bool) → length bs ≡ end → now (words .entry) ≡ cut 32 63 (length (now (words .entry))) bs → r ≡ at + leading (drop at bs)) ⌝ }
+    requires { ⌜ (at ≤ end) × ((end / 32 < length (now words)) × (end < 65536)) ⌝ }
+    ensures { λ r. ⌜ ((bs : List Bool) → length bs ≡ end → now (words .entry) ≡ cut 32 64 (length (now (words .entry))) bs → r ≡ at + leading (drop at bs)) ⌝ }
 {
-    let mut i = at;
-    while i < end {
-        let skip = u32::leading_zeros(number(words, i, 32));
-        if skip < 32 {
-            return i + skip;
+    let skip = u32::leading_zeros(number(words, at, 32));
+    if skip < 32 {
+        return at + skip;
+    }
+    next_in_words(words, end, at / 32 + 1)
+}
+
+// The place of the first one from bit 32 × from on, by whole words, or the end.
+fn next_in_words(words: &[u64], end: u32, from: u32) -> u32
+    requires { ⌜ (from ≤ end / 32 + 1) × ((end / 32 < length (now words)) × (end < 65536)) ⌝ }
+    ensures { λ r. ⌜ ((bs : List Bool) → length bs ≡ end → now (words .entry) ≡ cut 32 64 (length (now (words .entry))) bs → r ≡ min (32 * from) end + leading (drop (32 * from) bs)) ⌝ }
+{
+    let mut j = from;
+    while 32 * j < end {
+        let skip = u64::leading_zeros(words[j as usize]);
+        if skip < 64 {
+            return 32 * j + skip;
         }
-        i += 32;
+        j += 2;
     }
     end
 }
@@ -90,15 +132,34 @@ pub fn lay(draft: &mut [u64], at: u32, w: u32, v: u32)
     draft[j + 1] = x % 4294967296;
 }
 
-// The bytes of a draft.
+// The bytes of a draft: four of each word, then those that are left.
 pub fn pack(draft: &[u64], bytes: &mut [u8])
     requires { ⌜ length (now bytes) ≤ 4 * length (now draft) ⌝ }
     ensures { λ r. ⌜ ((out : List Bool) → now (draft .entry) ≡ cut 32 32 (length (now (draft .entry))) out
         → now (bytes .exit) ≡ cut 8 8 (length (now (bytes .entry))) out) ⌝ }
 {
-    let mut i = 0;
+    let mut i = pack_words(draft, bytes);
     while i < bytes.len() {
         bytes[i] = ((draft[i / 4] >> (24 - 8 * (i % 4))) % 256) as u8;
         i += 1;
     }
+}
+
+// How many bytes, four of each word, are written from the front.
+fn pack_words(draft: &[u64], bytes: &mut [u8]) -> usize
+    requires { ⌜ length (now bytes) ≤ 4 * length (now draft) ⌝ }
+    ensures { λ r. ⌜ r ≤ length (now (bytes .entry)) ⌝ }
+    ensures { λ r. ⌜ ((out : List Bool) → now (draft .entry) ≡ cut 32 32 (length (now (draft .entry))) out
+        → take r (now (bytes .exit)) ≡ take r (cut 8 8 (length (now (bytes .entry))) out)) ⌝ }
+{
+    let mut j = 0;
+    while j < bytes.len() / 4 {
+        let word = draft[j];
+        bytes[4 * j] = ((word >> 24) % 256) as u8;
+        bytes[4 * j + 1] = ((word >> 16) % 256) as u8;
+        bytes[4 * j + 2] = ((word >> 8) % 256) as u8;
+        bytes[4 * j + 3] = (word % 256) as u8;
+        j += 1;
+    }
+    4 * j
 }

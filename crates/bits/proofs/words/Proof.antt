@@ -1,77 +1,77 @@
--- Two quads make a word. The loop's invariant: the words so far are those of the cut, and the next quad is at hand.
-use Prim.Native.Nat.{ℕ, _+_, _*_, _/_, _%_, _^_, _-_, _≤_}
+-- The words of a record are those of the cut, one by one.
+use Prim.Native.Nat.{ℕ, _+_, _*_, _%_, _^_, _<_, _≤_}
 use mathlib.Core.List.{List}
 use mathlib.Core.Bool.{Bool}
 use mathlib.Core.Path.{_≡_, refl, sym, _∙_}
 use native.Mathlib.Omega.{arith}
+use lib.Dec.{lit<, lit≤}
+use lib.ListN.{length, getD}
+use Rattle.bits.specs.Bits.{spread}
+use Rattle.bits.proofs.Fronts.{part, part-lt, part-padded}
+use Rattle.bits.proofs.Cutting.{length-spread, four-bytes, last-byte, two-quads, one-quad, filled-none, filled-more, filled-all}
 use borrow.Author.Needs.{needs}
-use lib.ListN.{length, take, length-set}
-use Rattle.bits.specs.Bits.{spread, cut}
-use Rattle.bits.proofs.Fronts.{part, part-add, part-high, part-lt, part-padded}
-use Rattle.bits.proofs.Cutting.{fill-more, fill-all}
 use Rattle.bits.proofs.words.Statement.{statement}
 use Rattle.bits.proofs.words.Tie as tie
 
-abbrev Inv-loop : tie.InvT-loop
-Inv-loop bytes words₀ high₀ j₀ words high j =
-    (length words ≡ length words₀) × ((j ≤ length words₀) × ((high ≡ part 32 (32 * j) (spread 8 bytes))
-    × (take j words ≡ take j (cut 32 63 (length words₀) (spread 8 bytes)))))
+abbrev bytes : tie.After-four2 → List ℕ
+bytes c = c .before .before .before .before .before .before .before .before .before .before .before .before .before .before .args .bytes .now
 
-abbrev μ-loop : tie.MeasureT-loop
-μ-loop bytes words₀ high₀ j₀ words high j = length words₀ - j
+abbrev bits : tie.After-four2 → List Bool
+bits c = spread 8 (bytes c)
 
-word : (j : ℕ) (bs : List Bool) → part 32 (32 * j) bs * 2 ^ 31 % 2 ^ 64 + part 32 (32 * (j + 1)) bs / 2 ≡ part 63 (32 * j) bs
-word j bs =
-    let e : 32 * j + 32 ≡ 32 * (j + 1) = omega arith in
-    omega (arith, rw e at (part-add 32 31 (32 * j) bs), part-high 31 1 (32 * (j + 1)) bs, part-lt 32 (32 * j) bs)
+fits : (c : tie.After-four2) (i : ℕ) → getD (bytes c) i 0 < 2 ^ 8
+fits c i = c .before .before .before .before .before .before .before .before .before .before .before .before .before .shared-slice-known .given i .fits
 
-abbrev bits : tie.After-quad2 Inv-loop μ-loop → List Bool
-bits c = spread 8 (c .before .before .before .before .before .before .args .bytes .now)
+high : (c : tie.After-four2) → c .four2 .result ≡ part 32 192 (bits c)
+high c = c .four2 .ensures ∙ four-bytes (bytes c) (fits c) 24 25 26 27 192 refl refl refl refl
 
-low : (c : tie.After-quad2 Inv-loop μ-loop) → c .quad2 .result ≡ part 32 (32 * (c .before .before .loop .j + 1)) (bits c)
-low c = c .quad2 .ensures ∙ sym (part-padded 32 (32 * (c .before .before .loop .j + 1)) (bits c))
+low : (c : tie.After-four2) → c .before .before .before .before .before .four .result ≡ part 32 224 (bits c)
+low c = c .before .before .before .before .before .four .ensures ∙ last-byte (bytes c) (fits c) (c .before .before .before .before .before .before .before .before .before .before .before .before .before .before .pre .0)
 
-made : (c : tie.After-quad2 Inv-loop μ-loop)
-    → c .before .before .loop .high * 2 ^ 31 % 2 ^ 64 + c .quad2 .result / 2 ≡ part 63 (32 * c .before .before .loop .j) (bits c)
-made c = rw (c .before .before .loop .inv .1 .1 .0, low c) (word (c .before .before .loop .j) (bits c))
+made : (c : tie.After-four2) → c .four2 .result * 2 ^ 32 % 2 ^ 64 + c .before .before .before .before .before .four .result ≡ part 64 192 (bits c)
+made c = omega (arith, high c, low c, two-quads 192 224 (bits c) refl)
 
-loop-holds : tie.Need-loop-holds Inv-loop μ-loop
-loop-holds c = (refl, (search needs, (c .quad .ensures ∙ sym (part-padded 32 0 (spread 8 (c .before .before .before .args .bytes .now))), refl)))
+add-words : tie.Need-add-words
+add-words c = record { fits = rw (made c) (part-lt 64 192 (bits c)) }
 
-add-words : tie.Need-add-words Inv-loop μ-loop
-add-words c = omega (arith, made c, part-lt 63 (32 * c .before .before .loop .j) (bits c))
-
-loop-again : tie.Need-loop-again Inv-loop μ-loop
-loop-again c =
-    let s = c .before .before in (
-      simp length-set (s .loop .inv .0),
-      (
-        search needs,
-        (
-          low c,
-          fill-more 32 63 _ _ (s .loop .words) (s .loop .j) _ (s .loop .inv .0) (search needs) (s .loop .inv .1 .1 .1) (made c),
-        ),
-      ),
-    )
-
-returns : tie.Need-returns Inv-loop μ-loop
-returns c = let s = c .before .loop in fill-all 32 63 _ _ (s .words) (s .j) (s .inv .0) (search needs) (s .inv .1 .1 .1)
+returns : tie.Need-returns
+returns c =
+    let short : length (bits c) ≤ 256 = rw (length-spread, c .before .before .before .before .before .before .before .before .before .before .before .before .before .before .pre .0) (lit≤ tt) in
+    let word0 = filled-more 1 refl (filled-none 32 64 8 (bits c) (c .before .before .before .before .before .before .before .before .before .before .before .before .before .before .args .words .now) (c .before .before .before .before .before .before .before .before .before .before .before .before .before .before .pre .1)) (lit< tt) (c .before .before .before .before .before .before .before .before .before .before .before .before .eight .ensures ∙ sym (part-padded 64 0 (bits c))) in
+    let word1 = filled-more 2 refl word0 (lit< tt) (c .before .before .before .before .before .before .before .before .before .before .before .eight2 .ensures ∙ sym (part-padded 64 32 (bits c))) in
+    let word2 = filled-more 3 refl word1 (lit< tt) (c .before .before .before .before .before .before .before .before .before .before .eight3 .ensures ∙ sym (part-padded 64 64 (bits c))) in
+    let word3 = filled-more 4 refl word2 (lit< tt) (c .before .before .before .before .before .before .before .before .before .eight4 .ensures ∙ sym (part-padded 64 96 (bits c))) in
+    let word4 = filled-more 5 refl word3 (lit< tt) (c .before .before .before .before .before .before .before .before .eight5 .ensures ∙ sym (part-padded 64 128 (bits c))) in
+    let word5 = filled-more 6 refl word4 (lit< tt) (c .before .before .before .before .before .before .before .eight6 .ensures ∙ sym (part-padded 64 160 (bits c))) in
+    let word6 = filled-more 7 refl word5 (lit< tt) (made c) in
+    let last : c .before .before .before .before .before .four .result * 2 ^ 32 % 2 ^ 64 ≡ part 64 224 (bits c) = omega (arith, low c, one-quad 224 256 (bits c) refl short) in
+    let word7 = filled-more 8 refl word6 (lit< tt) last in
+    filled-all word7 (lit≤ tt)
 
 pub words-spec : {M : Type 1} → statement M
 words-spec =
     tie.close
     (tie.spec
-    Inv-loop
-    μ-loop
     (λ c κs. search needs)
-    loop-holds
+    (λ c. search needs)
+    (λ c κs. search needs)
+    (λ c. search needs)
+    (λ c κs. search needs)
+    (λ c. search needs)
+    (λ c κs. search needs)
+    (λ c. search needs)
+    (λ c κs. search needs)
+    (λ c. search needs)
+    (λ c κs. search needs)
+    (λ c. search needs)
+    (λ c. search needs)
+    (λ c κs. search needs)
+    (λ c. search needs)
+    (λ c. search needs)
+    (λ c. search needs)
     (λ c. search needs)
     (λ c κs. search needs)
     add-words
     (λ c. search needs)
-    (λ c. search needs)
-    (λ c. search needs)
-    (λ c. search needs)
-    loop-again
     (λ c. search needs)
     returns)
