@@ -1,6 +1,6 @@
 -- What shows that a put of a field, of whatever boxes and rule, is the step that the field's row means.
 use Prim.Native.Nat.{ℕ, zero, suc, _+_, _-_, _*_, _/_, _^_, _≤_, _<_}
-use mathlib.Core.List.{List, [], _∷_, _++_, append-nil, append-assoc}
+use mathlib.Core.List.{List, [], _∷_, _++_, map, append-nil, append-assoc}
 use mathlib.Core.Bool.{Bool, true, false, true≢false, _||_}
 use mathlib.Core.Path.{_≡_, refl, sym, ap, _∙_}
 use native.Mathlib.Omega.{arith}
@@ -9,14 +9,14 @@ use lib.Dec.{eqb, ltb}
 use lib.Pow.{pow-pos}
 use lib.ListN.{length, take, drop, getD, replicate, length-append, length-replicate}
 use lib.Seq.{drop-cons, take-suc, length-take-le}
-use borrow.Author.Tests.{lt-ltb, ltb-true}
+use borrow.Author.Tests.{eq-eqb, ne-eqb, lt-ltb, ltb-true}
 use Rattle.bits.specs.Bits.{bitsOf, cut, number}
 use Rattle.bits.proofs.Spelling.{length-bits-of, number-append, number-bits-of, bits-of-number}
 use Rattle.rows.proofs.Boxes.{length-there, laid-behind, length-laid}
-use Rattle.rows.proofs.Stepping.{Clear, admit-step, admitted-clear, admitted-within, there-one, there-same, total-same, box-width}
+use Rattle.rows.proofs.Stepping.{Clear, admit-step, admitted-clear, admitted-within, admitted-none, admitted-past, broken-none, total-none, total-same}
 use Rattle.rows.specs.Row.{pick, holds, broken}
 use Rattle.rows.specs.Walk.{total, there, exceeds, slotsOf, laidOn}
-use Rattle.rows.specs.inner.Step.{admitted, Drafted, Gave, Lays, LaidAll}
+use Rattle.rows.specs.inner.Step.{admitted, resume, Drafted, Gave, Lays, LaidAll}
 use Rattle.rows.specs.declared.Cursor.{Cursor}
 use Rattle.rows.specs.declared.When.{When}
 use Rattle.rows.specs.declared.Rule.{Rule}
@@ -66,38 +66,81 @@ fits-cons w v ws vs e = go (ltb v (2 ^ w)) refl e
     go true e f = (ltb-true v (2 ^ w) e, f)
     go false e f = absurd (true≢false f)
 
--- Zero fits every box.
-box-zero : (h : ℕ) → exceeds (h ∷ []) (0 ∷ []) ≡ false
-box-zero h = rw (lt-ltb 0 (2 ^ h) (pow-pos h))
-
-pub gave-box : (xs ys : List ℕ) (room : ℕ) (c : Cursor) (t : When) (w : ℕ) (rule : Rule) (v h : ℕ) (wide : Bool) (n : ℕ) (d : Cursor)
+-- After a refusal nothing is put.
+pub gave-refused : (xs : List ℕ) (room : ℕ) (c : Cursor) (t : When) (ws : List ℕ) (rule : Rule) (vs : List ℕ)
     → Drafted xs room c
-    → length ys ≡ length xs
-    → h ≡ pick (holds t) w 0
-    → wide ≡ exceeds (h ∷ []) (v ∷ [])
-    → n ≡ broken rule (v ∷ [])
-    → d ≡ admitted c room h wide n 0
-    → (d .why ≡ 0 → (out : List Bool) → length out ≡ c .at → xs ≡ cut 32 32 (length xs) out → ys ≡ cut 32 32 (length xs) (out ++ bitsOf h v))
-    → Gave xs ys room c t (w ∷ []) rule (v ∷ []) d
-gave-box xs ys room c t w rule v h wide n d within long here exceeding ruled is laid =
-    let boxes : there t (w ∷ []) ≡ h ∷ [] = rw (there-one t w, ← here) in
-    gave xs ys room c t (w ∷ []) rule (v ∷ []) h wide n d within long refl (rw boxes (omega arith)) (rw boxes exceeding) ruled is
-    (λ ok out at drafted. rw boxes (laid ok out at drafted))
+    → (c .why ≡ 0 → ⊥)
+    → Gave xs xs room c t ws rule vs c
+unfolding resume
+gave-refused xs room c t ws rule vs ready why =
+    record {
+      ready = ready;
+      long = refl;
+      step = λ vals k rs i seen told gives. rw (ne-eqb _ _ why);
+      before = λ ok. ok;
+      laid = λ ok. absurd (why ok);
+    }
 
--- A field wider than its room is refused or absent.
-pub gave-never : (xs : List ℕ) (room : ℕ) (c : Cursor) (t : When) (w h : ℕ) (d : Cursor)
+-- A field that is absent has boxes of no bits: only zeros fit them, and they lay nothing.
+zeros-fit : (ws vs : List ℕ) → length vs ≡ length ws → exceeds (map (λ (w : ℕ). 0) ws) vs ≡ false → vs ≡ map (λ (w : ℕ). 0) ws
+zeros-fit [] [] e fits = refl
+zeros-fit [] (v ∷ vs) e fits = absurd (omega arith)
+zeros-fit (w ∷ ws) [] e fits = absurd (omega arith)
+zeros-fit (w ∷ ws) (v ∷ vs) e fits =
+    let (one, rest) = fits-cons 0 v (map (λ (w : ℕ). 0) ws) vs fits in
+    let zero : v ≡ 0 = omega arith in
+    rw (zero, zeros-fit ws vs (omega arith) rest)
+
+laid-none : (out : List Bool) (ws vs : List ℕ) → laidOn out (map (λ (w : ℕ). 0) ws) vs ≡ out
+laid-none out [] vs = refl
+laid-none out (w ∷ ws) [] = refl
+laid-none out (w ∷ ws) (v ∷ vs) = laid-none (out ++ []) ws vs ∙ append-nil out
+
+pub gave-absent : (xs : List ℕ) (room : ℕ) (c : Cursor) (t : When) (ws : List ℕ) (rule : Rule) (vs : List ℕ) (wide : Bool) (d : Cursor)
+    → Drafted xs room c
+    → length vs ≡ length ws
+    → c .why ≡ 0
+    → holds t ≡ false
+    → wide ≡ exceeds (map (λ (w : ℕ). 0) ws) vs
+    → d ≡ record { at = c .at; why = pick wide 7 0; number = 0 }
+    → Gave xs xs room c t ws rule vs d
+gave-absent xs room c t ws rule vs wide d ready sized clear absent exceeding is =
+    gave xs xs room c t ws rule vs 0 wide (broken rule vs) d ready refl sized
+    (rw absent (sym (total-none ws))) (rw absent exceeding) refl
+    (is ∙ go wide exceeding)
+    (λ ok out at drafted. rw (absent, laid-none out ws vs) drafted)
+  where
+    go : (b : Bool) → b ≡ exceeds (map (λ (w : ℕ). 0) ws) vs
+        → record { at = c .at; why = pick b 7 0; number = 0 } ≡ admitted c room 0 b (broken rule vs) 0
+    go true e = rw (eq-eqb _ _ clear)
+    go false e = rw (ap (broken rule) (zeros-fit ws vs sized (sym e)) ∙ broken-none rule ws) (admitted-none c room (ready .within) clear)
+
+-- A field wider than its room, of no number.
+pub gave-past : (xs : List ℕ) (room : ℕ) (c : Cursor) (t : When) (w : ℕ) (d : Cursor)
     → Drafted xs room c
     → room < w
-    → h ≡ pick (holds t) w 0
-    → d ≡ admitted c room h false 0 0
+    → c .why ≡ 0
+    → holds t ≡ true
+    → d ≡ record { at = c .at; why = 2; number = 0 }
     → Gave xs xs room c t (w ∷ []) Any (0 ∷ []) d
-gave-never xs room c t w h d within wide here is =
-    gave-box xs xs room c t w Any 0 h false 0 d within refl here (sym (box-zero h)) refl is
-    (λ ok out at drafted. rw (absent (holds t) here (admitted-clear c room h false 0 0 (rw is at ok) .inside), append-nil) drafted)
-  where
-    absent : (b : Bool) → h ≡ pick b w 0 → c .at + h ≤ room → h ≡ 0
-    absent true e inside = absurd (omega arith)
-    absent false e inside = e
+gave-past xs room c t w d ready wide clear present is =
+    gave xs xs room c t (w ∷ []) Any (0 ∷ []) w false 0 d ready refl refl
+    (rw present (omega arith)) (rw (present, lt-ltb 0 (2 ^ w) (pow-pos w))) refl
+    (is ∙ admitted-past c room w clear (omega arith))
+    (λ ok. let two : d .why ≡ 2 = ap (λ (x : Cursor). x .why) is in absurd (omega arith))
+
+pub gave-box : (xs ys : List ℕ) (room : ℕ) (c : Cursor) (t : When) (w : ℕ) (rule : Rule) (v : ℕ) (wide : Bool) (n : ℕ) (d : Cursor)
+    → Drafted xs room c
+    → length ys ≡ length xs
+    → holds t ≡ true
+    → wide ≡ exceeds (w ∷ []) (v ∷ [])
+    → n ≡ broken rule (v ∷ [])
+    → d ≡ admitted c room w wide n 0
+    → (d .why ≡ 0 → (out : List Bool) → length out ≡ c .at → xs ≡ cut 32 32 (length xs) out → ys ≡ cut 32 32 (length xs) (out ++ bitsOf w v))
+    → Gave xs ys room c t (w ∷ []) rule (v ∷ []) d
+gave-box xs ys room c t w rule v wide n d within long present exceeding ruled is laid =
+    gave xs ys room c t (w ∷ []) rule (v ∷ []) w wide n d within long refl (rw present (omega arith)) (rw present exceeding) ruled is
+    (λ ok out at drafted. rw present (laid ok out at drafted))
 
 -- Where there is no fault, a box can be laid.
 pub lays : (xs : List ℕ) (room : ℕ) (c : Cursor) (h v : ℕ) (wide : Bool) (n : ℕ) (d : Cursor)
@@ -111,18 +154,15 @@ lays xs room c h v wide n d ready narrow exceeding is ok =
     let clear = admitted-clear c room h wide n 0 (rw is at ok) in
     (omega (arith, ready .within, ready .longer), (narrow, fits-cons h v [] [] (sym exceeding ∙ clear .narrow) .0))
 
--- A tariff's numbers that fit their boxes, in the h bits that it has on the card, and the one number that they make.
-pub record Packs (here : Bool) (h key kind priority : ℕ) : Type 0 where
+-- A tariff's numbers that fit their boxes, and the one number that they make.
+pub record Packs (key kind priority : ℕ) : Type 0 where
   pub small : (key < 16) × ((kind < 256) × (priority < 16))
-  pub whole : key * 4096 + kind * 16 + priority < 2 ^ h
+  pub whole : key * 4096 + kind * 16 + priority < 2 ^ 16
   pub spelt : (out : List Bool)
-      → laidOn out (pick here (4 ∷ 8 ∷ 4 ∷ []) (0 ∷ 0 ∷ 0 ∷ [])) (key ∷ kind ∷ priority ∷ []) ≡ out ++ bitsOf h (key * 4096 + kind * 16 + priority)
+      → laidOn out (4 ∷ 8 ∷ 4 ∷ []) (key ∷ kind ∷ priority ∷ []) ≡ out ++ bitsOf 16 (key * 4096 + kind * 16 + priority)
 
-packs : (here : Bool) (h key kind priority : ℕ)
-    → h ≡ pick here 16 0
-    → exceeds (pick here (4 ∷ 8 ∷ 4 ∷ []) (0 ∷ 0 ∷ 0 ∷ [])) (key ∷ kind ∷ priority ∷ []) ≡ false
-    → Packs here h key kind priority
-packs true h key kind priority e fits =
+packs : (key kind priority : ℕ) → exceeds (4 ∷ 8 ∷ 4 ∷ []) (key ∷ kind ∷ priority ∷ []) ≡ false → Packs key kind priority
+packs key kind priority fits =
     let (a, rest) = fits-cons 4 key (8 ∷ 4 ∷ []) (kind ∷ priority ∷ []) fits in
     let (b, last) = fits-cons 8 kind (4 ∷ []) (priority ∷ []) rest in
     let (d, none) = fits-cons 4 priority [] [] last in
@@ -130,43 +170,33 @@ packs true h key kind priority e fits =
     number-append (bitsOf 4 key) (bitsOf 8 kind ++ bitsOf 4 priority)
     ∙ rw (number-append (bitsOf 8 kind) (bitsOf 4 priority), number-bits-of 4 key a, number-bits-of 8 kind b, number-bits-of 4 priority d) (omega arith) in
     let spelt : bitsOf 16 (key * 4096 + kind * 16 + priority) ≡ bits = ap (bitsOf 16) (sym makes) ∙ bits-of-number bits in
-    rw e (record { small = (a, (b, d)); whole = omega arith; spelt = λ out. rw spelt (simp append-assoc) })
+    record { small = (a, (b, d)); whole = omega arith; spelt = λ out. rw spelt (simp append-assoc) }
   where
     bits : List Bool
     bits = bitsOf 4 key ++ (bitsOf 8 kind ++ bitsOf 4 priority)
-packs false h key kind priority e fits =
-    let (a, rest) = fits-cons 0 key (0 ∷ 0 ∷ []) (kind ∷ priority ∷ []) fits in
-    let (b, last) = fits-cons 0 kind (0 ∷ []) (priority ∷ []) rest in
-    let (d, none) = fits-cons 0 priority [] [] last in
-    rw e (record { small = (omega arith, (omega arith, omega arith)); whole = omega arith; spelt = λ out. simp append-assoc })
 
 -- Where there is no fault, a tariff can be packed and laid.
-pub packs-clear : (room : ℕ) (c : Cursor) (t : When) (key kind priority h : ℕ) (wide : Bool) (n : ℕ) (d : Cursor)
-    → h ≡ pick (holds t) 16 0
-    → wide ≡ exceeds (there t (4 ∷ 8 ∷ 4 ∷ [])) (key ∷ kind ∷ priority ∷ [])
-    → d ≡ admitted c room h wide n 0
+pub packs-clear : (room : ℕ) (c : Cursor) (key kind priority : ℕ) (wide : Bool) (n : ℕ) (d : Cursor)
+    → wide ≡ exceeds (4 ∷ 8 ∷ 4 ∷ []) (key ∷ kind ∷ priority ∷ [])
+    → d ≡ admitted c room 16 wide n 0
     → d .why ≡ 0
-    → Packs (holds t) h key kind priority
-packs-clear room c t key kind priority h wide n d here exceeding is ok =
-    packs (holds t) h key kind priority here (sym exceeding ∙ admitted-clear c room h wide n 0 (rw is at ok) .narrow)
+    → Packs key kind priority
+packs-clear room c key kind priority wide n d exceeding is ok =
+    packs key kind priority (sym exceeding ∙ admitted-clear c room 16 wide n 0 (rw is at ok) .narrow)
 
-pub gave-tariff : (xs ys : List ℕ) (room : ℕ) (c : Cursor) (t : When) (key kind priority h : ℕ) (wide : Bool) (n : ℕ) (d : Cursor)
+pub gave-tariff : (xs ys : List ℕ) (room : ℕ) (c : Cursor) (t : When) (key kind priority : ℕ) (wide : Bool) (n : ℕ) (d : Cursor)
     → Drafted xs room c
     → length ys ≡ length xs
-    → h ≡ pick (holds t) 16 0
-    → wide ≡ exceeds (there t (4 ∷ 8 ∷ 4 ∷ [])) (key ∷ kind ∷ priority ∷ [])
+    → holds t ≡ true
+    → wide ≡ exceeds (4 ∷ 8 ∷ 4 ∷ []) (key ∷ kind ∷ priority ∷ [])
     → n ≡ pick (eqb priority 13) 4 0
-    → d ≡ admitted c room h wide n 0
-    → (d .why ≡ 0 → (out : List Bool) → length out ≡ c .at → xs ≡ cut 32 32 (length xs) out → ys ≡ cut 32 32 (length xs) (out ++ bitsOf h (key * 4096 + kind * 16 + priority)))
+    → d ≡ admitted c room 16 wide n 0
+    → (d .why ≡ 0 → (out : List Bool) → length out ≡ c .at → xs ≡ cut 32 32 (length xs) out → ys ≡ cut 32 32 (length xs) (out ++ bitsOf 16 (key * 4096 + kind * 16 + priority)))
     → Gave xs ys room c t (4 ∷ 8 ∷ 4 ∷ []) Tariff (key ∷ kind ∷ priority ∷ []) d
-gave-tariff xs ys room c t key kind priority h wide n d within long here exceeding ruled is laid =
-    gave xs ys room c t (4 ∷ 8 ∷ 4 ∷ []) Tariff (key ∷ kind ∷ priority ∷ []) h wide n d within long refl
-    (here ∙ sums (holds t)) exceeding ruled is
-    (λ ok out at drafted. rw (packs-clear room c t key kind priority h wide n d here exceeding is ok .spelt out) (laid ok out at drafted))
-  where
-    sums : (b : Bool) → pick b 16 0 ≡ total (pick b (4 ∷ 8 ∷ 4 ∷ []) (0 ∷ 0 ∷ 0 ∷ []))
-    sums true = refl
-    sums false = refl
+gave-tariff xs ys room c t key kind priority wide n d within long present exceeding ruled is laid =
+    gave xs ys room c t (4 ∷ 8 ∷ 4 ∷ []) Tariff (key ∷ kind ∷ priority ∷ []) 16 wide n d within long refl
+    (rw present) (rw present exceeding) ruled is
+    (λ ok out at drafted. rw (present, packs-clear room c key kind priority wide n d exceeding is ok .spelt out) (laid ok out at drafted))
 
 -- Letters from i on: the first is too wide, or one behind it.
 pub any-more : (w : ℕ) (letters : List ℕ) (i : ℕ) (wide : Bool)
@@ -213,34 +243,32 @@ laid-more xs ys zs at w letters i place h long here so lay = λ out start drafte
     rw (add-one, take-suc letters i 0 h, laid-snoc out w (take i letters) (getD letters i 0), ← long)
     (lay (laidOn out (replicate (length (take i letters)) w) (take i letters)) reached (rw long (so out start drafted)))
 
-pub gave-text : (xs ys : List ℕ) (room : ℕ) (c : Cursor) (t : When) (letters : List ℕ) (h : ℕ) (wide : Bool) (d : Cursor)
+pub gave-text : (xs ys : List ℕ) (room : ℕ) (c : Cursor) (t : When) (letters : List ℕ) (wide : Bool) (d : Cursor)
     → Drafted xs room c
     → length ys ≡ length xs
-    → h ≡ pick (holds t) 5 0
-    → wide ≡ exceeds (replicate (length letters) h) letters
-    → d ≡ admitted c room (length letters * h) wide 0 0
-    → (d .why ≡ 0 → LaidAll xs ys (c .at) h letters)
+    → holds t ≡ true
+    → wide ≡ exceeds (replicate (length letters) 5) letters
+    → d ≡ admitted c room (length letters * 5) wide 0 0
+    → (d .why ≡ 0 → LaidAll xs ys (c .at) 5 letters)
     → Gave xs ys room c t (replicate (length letters) 5) Any letters d
-gave-text xs ys room c t letters h wide d within long here exceeding is laid =
+gave-text xs ys room c t letters wide d within long present exceeding is laid =
     let n : ℕ = length letters in
-    let boxes : there t (replicate n 5) ≡ replicate n h = rw (there-same t n 5, ← here) in
-    gave xs ys room c t (replicate n 5) Any letters (n * h) wide 0 d within long (sym (length-replicate n 5))
-    (rw boxes (sym (total-same n h))) (rw boxes exceeding) refl is
-    (λ ok out at drafted. rw boxes (laid ok out at drafted))
+    gave xs ys room c t (replicate n 5) Any letters (n * 5) wide 0 d within long (sym (length-replicate n 5))
+    (rw present (sym (total-same n 5))) (rw present exceeding) refl is
+    (λ ok out at drafted. rw present (laid ok out at drafted))
 
 -- Where there is no fault, letters can be laid.
-pub lays-all : (xs : List ℕ) (room : ℕ) (c : Cursor) (t : When) (letters : List ℕ) (h : ℕ) (wide : Bool) (d : Cursor)
+pub lays-all : (xs : List ℕ) (room : ℕ) (c : Cursor) (letters : List ℕ) (wide : Bool) (d : Cursor)
     → Drafted xs room c
     → room < 2 ^ 32
-    → h ≡ pick (holds t) 5 0
-    → wide ≡ exceeds (replicate (length letters) h) letters
-    → d ≡ admitted c room (length letters * h) wide 0 0
+    → wide ≡ exceeds (replicate (length letters) 5) letters
+    → d ≡ admitted c room (length letters * 5) wide 0 0
     → d .why ≡ 0
-    → Lays xs (c .at) h letters
-lays-all xs room c t letters h wide d ready fits here exceeding is ok =
-    let clear = admitted-clear c room (length letters * h) wide 0 0 (rw is at ok) in
+    → Lays xs (c .at) 5 letters
+lays-all xs room c letters wide d ready fits exceeding is ok =
+    let clear = admitted-clear c room (length letters * 5) wide 0 0 (rw is at ok) in
     record {
-      narrow = box-width t 5 h 32 here (omega arith);
+      narrow = omega arith;
       longer = omega (arith, ready .longer, clear .inside);
       small = omega (arith, clear .inside);
       fit = sym exceeding ∙ clear .narrow;

@@ -29,7 +29,7 @@ said-ending bs vals at = go (eqb (at + leading (drop at bs)) (length bs))
     go true = refl
     go false = refl
 
-module _ (words : List ℕ) (end : ℕ) (bs : List Bool) (long : length bs ≡ end) (cuts : words ≡ cut 32 63 (length words) bs) where
+module _ (words : List ℕ) (end : ℕ) (bs : List Bool) (long : length bs ≡ end) (cuts : words ≡ cut 32 64 (length words) bs) where
   takes-run : {rows : List Row} (i : ℕ) {seen : List ℕ} {c : Cursor} {all : List ℕ} {d : Cursor}
       → Takes words end rows seen c all d
       → resume end (boxesAt bs) rows i seen c ≡ resume end (boxesAt bs) [] 0 all d

@@ -1,18 +1,19 @@
 -- One step of a walk in code is one step of its meaning: what `admit` makes of a cursor stands for the same answer.
-use Prim.Native.Nat.{ℕ, suc, _+_, _≤_, zero, _*_}
+use Prim.Native.Nat.{ℕ, suc, _+_, _≤_, _<_, zero, _*_}
 use mathlib.Core.List.{List, [], _∷_, _++_, map}
-use mathlib.Core.Bool.{Bool, true, false}
-use mathlib.Core.Path.{_≡_, refl, ap}
+use mathlib.Core.Bool.{Bool, true, false, true≢false, not}
+use mathlib.Core.Path.{_≡_, refl, sym, ap, _∙_}
 use native.Mathlib.Omega.{arith}
 use lib.Dec.{eqb, ltb}
-use lib.ListN.{length, replicate}
-use borrow.Author.Tests.{ltb-false, eqb-true, eqb-false}
+use lib.ListN.{length, getD, replicate}
+use borrow.Author.Tests.{eq-eqb, lt-ltb, le-ltb, ltb-false, eqb-true, eqb-false}
 use Rattle.rows.specs.Row.{Row, Cond, pick, told, holds, broken}
 use Rattle.rows.specs.Walk.{done, refused, andThen, Source, walk, field, total, there, exceeds, fault}
 use Rattle.rows.specs.inner.Step.{settled, admitted, said, resume}
 use Rattle.rows.specs.declared.Cursor.{Cursor}
 use Rattle.rows.specs.declared.When.{When}
 use Rattle.rows.specs.declared.Rule.{Rule}
+use Rattle.rows.specs.declared.Rule.the-variants.{Any, Most, Tariff, NoSecond}
 
 module _ (room : ℕ) (from : Source) (rs : List Row) (i : ℕ) (seen : List ℕ) (at v : ℕ) where
   -- One field's outcome, and the cursor that stands for it. The numbers count only where there is no fault.
@@ -118,6 +119,51 @@ admitted-number c room W wide n v = go (eqb (c .why) 0) (eqb (fault wide (c .at 
     go false b = refl
     go true false = refl
     go true true = refl
+
+-- A field of no bits, and one that runs past the end.
+pub admitted-none : (c : Cursor) (room : ℕ) → c .at ≤ room → c .why ≡ 0
+    → record { at = c .at; why = 0; number = 0 } ≡ admitted c room 0 false 0 0
+admitted-none c room within clear =
+    let here : c .at + 0 ≡ c .at = omega arith in
+    rw (eq-eqb _ _ clear, here, le-ltb _ _ within)
+
+pub admitted-past : (c : Cursor) (room W : ℕ) → c .why ≡ 0 → room < c .at + W → record { at = c .at; why = 2; number = 0 } ≡ admitted c room W false 0 0
+admitted-past c room W clear long = rw (eq-eqb _ _ clear, lt-ltb _ _ long)
+
+pub map-none : (n w : ℕ) → map {B = ℕ} (λ (x : ℕ). 0) (replicate n w) ≡ replicate n 0
+map-none zero w = refl
+map-none (suc n) w = ap (λ (l : List ℕ). 0 ∷ l) (map-none n w)
+
+-- Boxes of no bits take no room, and zeros break no rule.
+pub total-none : (ws : List ℕ) → total (map (λ (w : ℕ). 0) ws) ≡ 0
+total-none [] = refl
+total-none (w ∷ ws) = let rest = total-none ws in omega arith
+
+getD-none : (ws : List ℕ) (i : ℕ) → getD (map {B = ℕ} (λ (w : ℕ). 0) ws) i 0 ≡ 0
+getD-none [] i = refl
+getD-none (w ∷ ws) zero = refl
+getD-none (w ∷ ws) (suc i) = getD-none ws i
+
+pub broken-none : (rule : Rule) (ws : List ℕ) → broken rule (map (λ (w : ℕ). 0) ws) ≡ 0
+broken-none Any ws = refl
+broken-none (Most m) ws = rw (getD-none ws 0, le-ltb m 0 (omega arith))
+broken-none Tariff ws = rw (getD-none ws 2)
+broken-none NoSecond ws = rw (getD-none ws 0)
+
+-- A field that code found to be there is, and one that it did not find is absent.
+pub not-false : (b : Bool) → not b ≡ false → b ≡ true
+not-false true e = refl
+not-false false e = absurd (true≢false e)
+
+pub not-true : (b : Bool) → not b ≡ true → b ≡ false
+not-true true e = absurd (true≢false (sym e))
+not-true false e = refl
+
+pub on : (b : Bool) (t : When) → b ≡ holds t → not b ≡ false → holds t ≡ true
+on b t e f = sym e ∙ not-false b f
+
+pub off : (b : Bool) (t : When) → b ≡ holds t → not b ≡ true → holds t ≡ false
+off b t e f = sym e ∙ not-true b f
 
 -- One box, on the card and in its table.
 pub there-one : (t : When) (w : ℕ) → there t (w ∷ []) ≡ pick (holds t) w 0 ∷ []

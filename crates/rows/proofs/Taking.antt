@@ -1,6 +1,6 @@
 -- What shows that a take of a field, of whatever boxes and rule, is the step that the field's row means.
 use Prim.Native.Nat.{ℕ, zero, suc, _+_, _-_, _*_, _/_, _%_, _^_, _≤_, _<_}
-use mathlib.Core.List.{List, [], _∷_, _++_, append-assoc}
+use mathlib.Core.List.{List, [], _∷_, _++_, map, append-assoc}
 use mathlib.Core.Bool.{Bool, true, false}
 use mathlib.Core.Path.{_≡_, refl, sym, ap, subst, _∙_}
 use native.Mathlib.Omega.{arith}
@@ -15,10 +15,10 @@ use Rattle.bits.proofs.Spelling.{number-lt}
 use Rattle.bits.proofs.Cutting.{number-at}
 use Rattle.bits.proofs.Fronts.{part, part-part, part-take}
 use Rattle.rows.proofs.Boxes.{numbers-fit}
-use Rattle.rows.proofs.Stepping.{admit-step, admitted-clear, admitted-within, admitted-number, there-one, there-same, total-same, box-width}
+use Rattle.rows.proofs.Stepping.{admit-step, admitted-within, admitted-number, admitted-none, admitted-past, broken-none, total-none, total-same}
 use Rattle.rows.specs.Row.{pick, told, holds, broken}
 use Rattle.rows.specs.Walk.{total, there, numbers, boxesAt, ending}
-use Rattle.rows.specs.inner.Step.{admitted, resume, Ready, Took, Ended, Spells, lettersAt}
+use Rattle.rows.specs.inner.Step.{admitted, resume, Ready, Took, Ended, lettersAt}
 use Rattle.rows.specs.declared.Cursor.{Cursor}
 use Rattle.rows.specs.declared.When.{When}
 use Rattle.rows.specs.declared.Rule.{Rule}
@@ -28,7 +28,7 @@ use Rattle.rows.specs.declared.Rule.the-variants.{Any, Tariff}
 pub took : (words : List ℕ) (end : ℕ) (c : Cursor) (t : When) (ws : List ℕ) (rule : Rule) (vs : List ℕ) (W n v : ℕ) (d : Cursor)
     → Ready words end c
     → W ≡ total (there t ws)
-    → ((bs : List Bool) → length bs ≡ end → words ≡ cut 32 63 (length words) bs → c .at + W ≤ end
+    → ((bs : List Bool) → length bs ≡ end → words ≡ cut 32 64 (length words) bs → c .at + W ≤ end
     → (broken rule (numbers (there t ws) (drop (c .at) bs)) ≡ n) × (d .why ≡ 0 → numbers (there t ws) (drop (c .at) bs) ≡ vs))
     → d ≡ admitted c end W false n v
     → Took words end c t ws rule vs d
@@ -42,54 +42,76 @@ took words end c t ws rule vs W n v d ready width holds is =
           (λ room ok. holds bs long cuts (rw width room) .1 (rw (is, width) ok)));
     }
 
+-- After a refusal nothing is taken.
+pub took-refused : (words : List ℕ) (end : ℕ) (c : Cursor) (t : When) (ws : List ℕ) (rule : Rule) (vs : List ℕ)
+    → Ready words end c
+    → (c .why ≡ 0 → ⊥)
+    → Took words end c t ws rule vs c
+unfolding resume
+took-refused words end c t ws rule vs ready why = record { ready = ready; step = λ bs long cuts k rs i seen told. rw (ne-eqb _ _ why) }
+
+-- A field that is absent has boxes of no bits, which hold zeros.
+numbers-none : (ws : List ℕ) (bs : List Bool) → numbers (map (λ (w : ℕ). 0) ws) bs ≡ map (λ (w : ℕ). 0) ws
+numbers-none [] bs = refl
+numbers-none (w ∷ ws) bs = ap (λ (l : List ℕ). 0 ∷ l) (numbers-none ws bs)
+
+pub took-absent : (words : List ℕ) (end : ℕ) (c : Cursor) (t : When) (ws : List ℕ) (rule : Rule) (vs : List ℕ) (d : Cursor)
+    → Ready words end c
+    → c .why ≡ 0
+    → holds t ≡ false
+    → vs ≡ map (λ (w : ℕ). 0) ws
+    → d ≡ record { at = c .at; why = 0; number = 0 }
+    → Took words end c t ws rule vs d
+took-absent words end c t ws rule vs d ready clear absent zeros is =
+    took words end c t ws rule vs 0 0 0 d ready
+    (rw absent (sym (total-none ws)))
+    (λ bs long cuts room.
+    let gives : numbers (there t ws) (drop (c .at) bs) ≡ map (λ (w : ℕ). 0) ws = rw absent (numbers-none ws (drop (c .at) bs)) in
+    (ap (broken rule) gives ∙ broken-none rule ws, λ _. gives ∙ sym zeros))
+    (is ∙ admitted-none c end (ready .within) clear)
+
+-- A field that runs past the end.
+pub took-past : (words : List ℕ) (end : ℕ) (c : Cursor) (t : When) (ws : List ℕ) (rule : Rule) (vs : List ℕ) (d : Cursor)
+    → Ready words end c
+    → c .why ≡ 0
+    → end < c .at + total (there t ws)
+    → d ≡ record { at = c .at; why = 2; number = 0 }
+    → Took words end c t ws rule vs d
+took-past words end c t ws rule vs d ready clear long is =
+    took words end c t ws rule vs (total (there t ws)) 0 0 d ready refl
+    (λ bs size cuts room. absurd (omega arith))
+    (is ∙ admitted-past c end (total (there t ws)) clear long)
+
 -- What is read from the words is what the bits hold.
 held : (words : List ℕ) (end : ℕ) (c : Cursor) (h v : ℕ) (bs : List Bool)
     → Ready words end c
     → h ≤ 32
     → v ≡ numberAt words (c .at) h
     → length bs ≡ end
-    → words ≡ cut 32 63 (length words) bs
+    → words ≡ cut 32 64 (length words) bs
     → c .at + h ≤ end
     → v ≡ number (take h (drop (c .at) bs))
 held words end c h v bs ready narrow reads long cuts room =
     let covered : c .at / 32 < length words = omega (arith, ready .within, ready .covered) in
     reads ∙ rw cuts (number-at (length words) bs (c .at) h covered narrow (rw long room))
 
-pub took-box : (words : List ℕ) (end : ℕ) (c : Cursor) (t : When) (w : ℕ) (rule : Rule) (h v n : ℕ) (d : Cursor)
+pub took-box : (words : List ℕ) (end : ℕ) (c : Cursor) (t : When) (w : ℕ) (rule : Rule) (v n : ℕ) (d : Cursor)
     → Ready words end c
     → w ≤ 32
-    → h ≡ pick (holds t) w 0
-    → v ≡ numberAt words (c .at) h
+    → holds t ≡ true
+    → v ≡ numberAt words (c .at) w
     → n ≡ broken rule (v ∷ [])
-    → d ≡ admitted c end h false n v
+    → d ≡ admitted c end w false n v
     → Took words end c t (w ∷ []) rule (d .number ∷ []) d
-took-box words end c t w rule h v n d ready narrow here reads ruled is =
-    let gave : d .number ≡ v = ap (λ (x : Cursor). x .number) is ∙ admitted-number c end h false n v in
+took-box words end c t w rule v n d ready narrow present reads ruled is =
+    let gave : d .number ≡ v = ap (λ (x : Cursor). x .number) is ∙ admitted-number c end w false n v in
     subst (λ (x : ℕ). Took words end c t (w ∷ []) rule (x ∷ []) d) (sym gave)
-    (took words end c t (w ∷ []) rule (v ∷ []) h n v d ready
-    (rw (there-one t w, ← here) (omega arith))
+    (took words end c t (w ∷ []) rule (v ∷ []) w n v d ready
+    (rw present (omega arith))
     (λ bs long cuts room.
-    let gives : numbers (there t (w ∷ [])) (drop (c .at) bs) ≡ v ∷ [] =
-    rw (there-one t w, ← here, ← (held words end c h v bs ready (box-width t w h 32 here narrow) reads long cuts room)) in
+    let gives : numbers (there t (w ∷ [])) (drop (c .at) bs) ≡ v ∷ [] = rw (present, ← (held words end c w v bs ready narrow reads long cuts room)) in
     (ap (broken rule) gives ∙ sym ruled, λ _. gives))
     is)
-
--- A field wider than its room is refused or absent.
-pub took-never : (words : List ℕ) (end : ℕ) (c : Cursor) (t : When) (w h : ℕ) (d : Cursor)
-    → Ready words end c
-    → end < w
-    → h ≡ pick (holds t) w 0
-    → d ≡ admitted c end h false 0 0
-    → Took words end c t (w ∷ []) Any (0 ∷ []) d
-took-never words end c t w h d ready wide here is =
-    took words end c t (w ∷ []) Any (0 ∷ []) h 0 0 d ready
-    (rw (there-one t w, ← here) (omega arith))
-    (λ bs long cuts room. (refl, λ _. go bs (holds t) (rw here at room)))
-    is
-  where
-    go : (bs : List Bool) (b : Bool) → c .at + pick b w 0 ≤ end → numbers (pick b (w ∷ []) (0 ∷ [])) (drop (c .at) bs) ≡ 0 ∷ []
-    go bs true room = absurd (omega arith)
-    go bs false room = refl
 
 -- A part of a number's bits is a part of the number.
 part-of : (ds : List Bool) (n o w r : ℕ) → o + w + r ≡ n → n ≤ length ds → number (take w (drop o ds)) ≡ number (take n ds) / 2 ^ r % 2 ^ w
@@ -99,12 +121,11 @@ part-of ds n o w r e long =
     let one : part n 0 ds / 2 ^ r % 2 ^ w ≡ part w o ds = rw here at (part-part o w r n 0 ds e) in
     sym (part-take w o ds (omega arith)) ∙ sym one ∙ rw whole
 
-tariff-held : (b : Bool) (ds : List Bool) (v : ℕ)
-    → pick b 16 0 ≤ length ds
-    → v ≡ number (take (pick b 16 0) ds)
-    → numbers (pick b (4 ∷ 8 ∷ 4 ∷ []) (0 ∷ 0 ∷ 0 ∷ [])) ds ≡ v / 4096 ∷ v / 16 % 256 ∷ v % 16 ∷ []
-tariff-held false ds v long e = rw e
-tariff-held true ds v long e =
+tariff-held : (ds : List Bool) (v : ℕ)
+    → 16 ≤ length ds
+    → v ≡ number (take 16 ds)
+    → numbers (4 ∷ 8 ∷ 4 ∷ []) ds ≡ v / 4096 ∷ v / 16 % 256 ∷ v % 16 ∷ []
+tariff-held ds v long e =
     let small : v < 2 ^ 16 = rw e (rw (length-take-le 16 ds long) at (number-lt (take 16 ds))) in
     let key : number (take 4 ds) ≡ v / 4096 = part-of ds 16 0 4 12 refl long ∙ rw (← e) (omega arith) in
     let type : number (take 8 (drop 4 ds)) ≡ v / 16 % 256 = part-of ds 16 4 8 4 refl long ∙ rw (← e) (omega arith) in
@@ -112,26 +133,23 @@ tariff-held true ds v long e =
     ap (λ (l : List Bool). number (take 4 l)) (drop-drop 8 4 ds) ∙ part-of ds 16 12 4 0 refl long ∙ rw (← e) (omega arith) in
     rw (key, type, priority)
 
-pub took-tariff : (words : List ℕ) (end : ℕ) (c : Cursor) (t : When) (h v n : ℕ) (d : Cursor)
+pub took-tariff : (words : List ℕ) (end : ℕ) (c : Cursor) (t : When) (v n : ℕ) (d : Cursor)
     → Ready words end c
-    → h ≡ pick (holds t) 16 0
-    → v ≡ numberAt words (c .at) h
+    → holds t ≡ true
+    → v ≡ numberAt words (c .at) 16
     → n ≡ pick (eqb (v % 16) 13) 4 0
-    → d ≡ admitted c end h false n v
+    → d ≡ admitted c end 16 false n v
     → Took words end c t (4 ∷ 8 ∷ 4 ∷ []) Tariff (v / 4096 ∷ v / 16 % 256 ∷ v % 16 ∷ []) d
-took-tariff words end c t h v n d ready here reads ruled is =
-    took words end c t (4 ∷ 8 ∷ 4 ∷ []) Tariff _ h n v d ready
-    (here ∙ wide (holds t))
+took-tariff words end c t v n d ready present reads ruled is =
+    took words end c t (4 ∷ 8 ∷ 4 ∷ []) Tariff _ 16 n v d ready
+    (rw present)
     (λ bs long cuts room.
     let gives : numbers (there t (4 ∷ 8 ∷ 4 ∷ [])) (drop (c .at) bs) ≡ v / 4096 ∷ v / 16 % 256 ∷ v % 16 ∷ [] =
-    tariff-held (holds t) (drop (c .at) bs) v (rw (length-drop (c .at) bs) (omega arith))
-    (rw (← here) (held words end c h v bs ready (box-width t 16 h 32 here (omega arith)) reads long cuts room)) in
+    rw present
+    (tariff-held (drop (c .at) bs) v (rw (length-drop (c .at) bs) (omega arith))
+    (held words end c 16 v bs ready (omega arith) reads long cuts room)) in
     (ap (broken Tariff) gives ∙ sym ruled, λ _. gives))
     is
-  where
-    wide : (b : Bool) → pick b 16 0 ≡ total (pick b (4 ∷ 8 ∷ 4 ∷ []) (0 ∷ 0 ∷ 0 ∷ []))
-    wide true = refl
-    wide false = refl
 
 -- One more letter.
 pub spelt-more : (words : List ℕ) (at w n : ℕ) (letters : List ℕ) (i place : ℕ)
@@ -148,7 +166,7 @@ letters-held : (words : List ℕ) (bs : List Bool) (at w n : ℕ)
     → w ≤ 32
     → (at + w * n) / 32 < length words
     → at + w * n ≤ length bs
-    → words ≡ cut 32 63 (length words) bs
+    → words ≡ cut 32 64 (length words) bs
     → numbers (replicate n w) (drop at bs) ≡ lettersAt words at w n
 letters-held words bs at w zero narrow covered room cuts = refl
 letters-held words bs at w (suc n) narrow covered room cuts =
@@ -156,38 +174,21 @@ letters-held words bs at w (suc n) narrow covered room cuts =
     let rest = letters-held words bs (at + w) w n narrow (omega arith) (omega arith) cuts in
     rw (one, drop-drop w at bs, rest)
 
-pub took-text : (words : List ℕ) (end : ℕ) (c : Cursor) (t : When) (letters : List ℕ) (h n : ℕ) (d : Cursor)
+pub took-text : (words : List ℕ) (end : ℕ) (c : Cursor) (t : When) (letters : List ℕ) (n : ℕ) (d : Cursor)
     → Ready words end c
-    → h ≡ pick (holds t) 5 0
-    → d ≡ admitted c end (n * h) false 0 0
-    → (d .why ≡ 0 → letters ≡ lettersAt words (c .at) h n)
+    → holds t ≡ true
+    → letters ≡ lettersAt words (c .at) 5 n
+    → d ≡ admitted c end (n * 5) false 0 0
     → Took words end c t (replicate n 5) Any letters d
-took-text words end c t letters h n d ready here is spelt =
-    took words end c t (replicate n 5) Any letters (n * h) 0 0 d ready
-    (rw (there-same t n 5, ← here) (sym (total-same n h)))
+took-text words end c t letters n d ready present spelt is =
+    took words end c t (replicate n 5) Any letters (n * 5) 0 0 d ready
+    (rw present (sym (total-same n 5)))
     (λ bs long cuts room. (
       refl,
-      λ ok. rw (there-same t n 5, ← here)
-          (letters-held words bs (c .at) h n (box-width t 5 h 32 here (omega arith)) (omega (arith, ready .within, ready .covered)) (omega arith) cuts
-          ∙ sym (spelt ok)),
+      λ ok. rw present
+          (letters-held words bs (c .at) 5 n (omega arith) (omega (arith, ready .within, ready .covered)) (omega arith) cuts ∙ sym spelt),
     ))
     is
-
--- Letters that have room have words.
-pub spells : (words : List ℕ) (end : ℕ) (c : Cursor) (t : When) (h n : ℕ) (d : Cursor)
-    → Ready words end c
-    → end < 2 ^ 32
-    → h ≡ pick (holds t) 5 0
-    → d ≡ admitted c end (n * h) false 0 0
-    → d .why ≡ 0
-    → Spells words (c .at) h n
-spells words end c t h n d ready fits here is ok =
-    let clear = admitted-clear c end (n * h) false 0 0 (rw is at ok) in
-    record {
-      narrow = box-width t 5 h 32 here (omega arith);
-      covered = omega (arith, ready .covered, clear .inside);
-      small = omega (arith, clear .inside);
-    }
 
 -- The end of a reading after a refusal, at the end of the bits, and at a one before it.
 pub ended-refused : (words : List ℕ) (end : ℕ) (c : Cursor) → (c .why ≡ 0 → ⊥) → Ended words end c c
@@ -196,7 +197,7 @@ ended-refused words end c why = record { says = λ bs long cuts i seen. rw (ne-e
 
 module _ (words : List ℕ) (end : ℕ) (c : Cursor) (one : ℕ)
     (clear : c .why ≡ 0)
-    (found : (bs : List Bool) → length bs ≡ end → words ≡ cut 32 63 (length words) bs → one ≡ c .at + leading (drop (c .at) bs)) where
+    (found : (bs : List Bool) → length bs ≡ end → words ≡ cut 32 64 (length words) bs → one ≡ c .at + leading (drop (c .at) bs)) where
   pub ended-done : one ≡ end → Ended words end c c
   unfolding resume ending
   ended-done last =

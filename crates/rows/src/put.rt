@@ -3,7 +3,8 @@ ghost use mathlib.Core.Path.{_≡_};
 ghost use mathlib.Core.List.{List, [], _∷_};
 ghost use Prim.Native.Nat.{ℕ, _+_, _*_, _/_, _≤_, _<_};
 ghost use lib.ListN.{length, replicate};
-ghost use Rattle.rows.specs.Walk.{there, exceeds};
+ghost use Rattle.rows.specs.Row.{pick};
+ghost use Rattle.rows.specs.Walk.{exceeds};
 ghost use Rattle.rows.specs.inner.Step.{Drafted, Gave, Lays, LaidAll, Packed};
 use crate::Cursor;
 use crate::Rule;
@@ -25,12 +26,17 @@ fn ruled(draft: &mut [u64], room: u32, c: Cursor, when: When, w: u32, rule: Rule
     requires { ⌜ Drafted (now draft) room c × (w ≤ 32) ⌝ }
     ensures { λ d. ⌜ Gave (now (draft .entry)) (now (draft .exit)) room c when (w ∷ []) rule (v ∷ []) d ⌝ }
 {
-    let here = step::width(when, w);
+    if c.why != 0 {
+        return c;
+    }
+    if !step::there(when) {
+        return step::absent(c, wide(v, 0));
+    }
     let broken = step::ruled(rule, v);
-    let wide = wide(v, here);
-    let d = step::admit(c, room, here, wide, broken, 0);
+    let wide = wide(v, w);
+    let d = step::admit(c, room, w, wide, broken, 0);
     if d.why == 0 {
-        bits::lay(draft, c.at, here, v);
+        bits::lay(draft, c.at, w, v);
     }
     d
 }
@@ -80,27 +86,36 @@ pub fn tariff(
     requires { ⌜ Drafted (now draft) room c ⌝ }
     ensures { λ d. ⌜ Gave (now (draft .entry)) (now (draft .exit)) room c when (4 ∷ 8 ∷ 4 ∷ []) Rule.Tariff (key ∷ kind ∷ priority ∷ []) d ⌝ }
 {
-    let here = step::width(when, ListTariff::BITS);
-    let wide = tariff_wide(when, key, kind, priority);
+    if c.why != 0 {
+        return c;
+    }
+    let here = step::there(when);
+    let wide = tariff_wide(here, key, kind, priority);
+    if !here {
+        return step::absent(c, wide);
+    }
     let broken = if priority == ListTariff::UNDEFINED {
         4
     } else {
         0
     };
-    let d = step::admit(c, room, here, wide, broken, 0);
+    let d = step::admit(c, room, ListTariff::BITS, wide, broken, 0);
     if d.why == 0 {
-        bits::lay(draft, c.at, here, packed(key, kind, priority));
+        bits::lay(draft, c.at, ListTariff::BITS, packed(key, kind, priority));
     }
     d
 }
 
-// Whether one of a tariff's numbers is too wide for its box as it stands on the card.
-fn tariff_wide(when: When, key: u32, kind: u32, priority: u32) -> bool
-    ensures { λ r. ⌜ r ≡ exceeds (there when (4 ∷ 8 ∷ 4 ∷ [])) (key ∷ kind ∷ priority ∷ []) ⌝ }
+// Whether one of a tariff's numbers is too wide for its box, or not zero where the field is absent.
+fn tariff_wide(here: bool, key: u32, kind: u32, priority: u32) -> bool
+    ensures { λ r. ⌜ r ≡ exceeds (pick here (4 ∷ 8 ∷ 4 ∷ []) (0 ∷ 0 ∷ 0 ∷ [])) (key ∷ kind ∷ priority ∷ []) ⌝ }
 {
-    wide(key, step::width(when, ListTariff::KEY_BITS))
-        | wide(kind, step::width(when, ListTariff::KIND_BITS))
-        | wide(priority, step::width(when, ListTariff::PRIORITY_BITS))
+    if here {
+        return wide(key, ListTariff::KEY_BITS)
+            | wide(kind, ListTariff::KIND_BITS)
+            | wide(priority, ListTariff::PRIORITY_BITS);
+    }
+    wide(key, 0) | wide(kind, 0) | wide(priority, 0)
 }
 
 // A tariff's numbers as one of 16 bits.
@@ -116,12 +131,17 @@ pub fn text(draft: &mut [u64], room: u32, c: Cursor, when: When, letters: &[u32]
     requires { ⌜ Drafted (now draft) room c × (length (now letters) ≤ 32) ⌝ }
     ensures { λ d. ⌜ Gave (now (draft .entry)) (now (draft .exit)) room c when (replicate (length (now (letters .entry))) 5) Rule.Any (now (letters .entry)) d ⌝ }
 {
-    let here = step::width(when, LETTER_BITS);
-    let wide = any_wide(letters, here);
-    let n = letters.len() as u32;
-    let d = step::admit(c, room, n * here, wide, 0, 0);
+    if c.why != 0 {
+        return c;
+    }
+    if !step::there(when) {
+        return step::absent(c, any_wide(letters, 0));
+    }
+    let wide = any_wide(letters, LETTER_BITS);
+    let width = letters.len() as u32 * LETTER_BITS;
+    let d = step::admit(c, room, width, wide, 0, 0);
     if d.why == 0 {
-        lay_all(draft, c.at, here, letters);
+        lay_all(draft, c.at, LETTER_BITS, letters);
     }
     d
 }
@@ -160,8 +180,13 @@ pub fn never(room: u32, c: Cursor, when: When, w: u32) -> Cursor
     requires { ⌜ (c .at ≤ room) × (room < w) ⌝ }
     ensures { λ d. ⌜ ((draft : List ℕ) → room / 32 + 1 < length draft → Gave draft draft room c when (w ∷ []) Rule.Any (0 ∷ []) d) ⌝ }
 {
-    let here = step::width(when, w);
-    step::admit(c, room, here, false, 0, 0)
+    if c.why != 0 {
+        return c;
+    }
+    if !step::there(when) {
+        return step::absent(c, false);
+    }
+    step::past(c)
 }
 
 // The end of a writing: where there was no refusal, all of the lent bytes are the draft's bits and zeros behind them.

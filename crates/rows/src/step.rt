@@ -1,4 +1,4 @@
-// What takes and puts share: a field's width on the card, its rule, and the order of its faults.
+// What takes and puts share: whether a field is there, its rule, and the order of its faults.
 ghost use mathlib.Core.Path.{_≡_};
 ghost use mathlib.Core.List.{[], _∷_};
 ghost use Prim.Native.Nat.{_≤_};
@@ -8,20 +8,19 @@ use crate::Cursor;
 use crate::Rule;
 use crate::When;
 
-// The width of a box of w bits as it stands on the card: none where its field is absent.
-pub fn width(when: When, w: u32) -> u32
-    ensures { λ r. ⌜ r ≡ pick (holds when) w 0 ⌝ }
+// Whether a field is there.
+pub fn there(when: When) -> bool
+    ensures { λ r. ⌜ r ≡ holds when ⌝ }
 {
     match when {
-        When::Always => w,
+        When::Always => true,
         When::Bit(n, e) => {
             if e < 32 {
-                if (n >> e) % 2 == 1 { w } else { 0 }
-            } else {
-                0
+                return (n >> e) % 2 == 1;
             }
+            false
         }
-        When::Above(n, k) => if k < n { w } else { 0 },
+        When::Above(n, k) => k < n,
     }
 }
 
@@ -74,5 +73,27 @@ pub fn admit(c: Cursor, room: u32, width: u32, wide: bool, ruled: u32, number: u
         at: c.at + width,
         why: 0,
         number,
+    }
+}
+
+// A field that is absent has no bits: 7 where one of its numbers is not zero.
+pub fn absent(c: Cursor, wide: bool) -> Cursor
+    ensures { λ d. ⌜ d ≡ record { at = c .at; why = pick wide 7 0; number = 0 } ⌝ }
+{
+    Cursor {
+        at: c.at,
+        why: if wide { 7 } else { 0 },
+        number: 0,
+    }
+}
+
+// A field that runs past the end.
+pub fn past(c: Cursor) -> Cursor
+    ensures { λ d. ⌜ d ≡ record { at = c .at; why = 2; number = 0 } ⌝ }
+{
+    Cursor {
+        at: c.at,
+        why: 2,
+        number: 0,
     }
 }

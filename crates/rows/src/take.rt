@@ -40,6 +40,18 @@ impl ListTariff {
 
     // What one of the key is worth in a tariff's number.
     pub const KEY_UNIT: u32 = ListTariff::KINDS * ListTariff::PRIORITIES;
+
+    // One that is refused or absent.
+    fn without_numbers(cursor: Cursor) -> ListTariff
+        ensures { λ r. ⌜ r ≡ record { cursor = cursor; key = 0; kind = 0; priority = 0 } ⌝ }
+    {
+        ListTariff {
+            cursor,
+            key: 0,
+            kind: 0,
+            priority: 0,
+        }
+    }
 }
 
 // A field of one box of w bits, under a rule.
@@ -47,10 +59,18 @@ fn ruled(words: &[u64], end: u32, c: Cursor, when: When, w: u32, rule: Rule) -> 
     requires { ⌜ Ready (now words) end c × (w ≤ 32) ⌝ }
     ensures { λ d. ⌜ Took (now (words .entry)) end c when (w ∷ []) rule (d .number ∷ []) d ⌝ }
 {
-    let here = step::width(when, w);
-    let v = bits::number(words, c.at, here);
+    if c.why != 0 {
+        return c;
+    }
+    if !step::there(when) {
+        return step::absent(c, false);
+    }
+    if end - c.at < w {
+        return step::past(c);
+    }
+    let v = bits::number(words, c.at, w);
     let broken = step::ruled(rule, v);
-    step::admit(c, end, here, false, broken, v)
+    step::admit(c, end, w, false, broken, v)
 }
 
 // A number of w bits.
@@ -82,15 +102,23 @@ pub fn tariff(words: &[u64], end: u32, c: Cursor, when: When) -> ListTariff
     requires { ⌜ Ready (now words) end c ⌝ }
     ensures { λ r. ⌜ Took (now (words .entry)) end c when (4 ∷ 8 ∷ 4 ∷ []) Rule.Tariff (r .key ∷ r .kind ∷ r .priority ∷ []) (r .cursor) ⌝ }
 {
-    let here = step::width(when, ListTariff::BITS);
-    let v = bits::number(words, c.at, here);
+    if c.why != 0 {
+        return ListTariff::without_numbers(c);
+    }
+    if !step::there(when) {
+        return ListTariff::without_numbers(step::absent(c, false));
+    }
+    if end - c.at < ListTariff::BITS {
+        return ListTariff::without_numbers(step::past(c));
+    }
+    let v = bits::number(words, c.at, ListTariff::BITS);
     let priority = v % ListTariff::PRIORITIES;
     let broken = if priority == ListTariff::UNDEFINED {
         4
     } else {
         0
     };
-    let cursor = step::admit(c, end, here, false, broken, v);
+    let cursor = step::admit(c, end, ListTariff::BITS, false, broken, v);
     ListTariff {
         cursor,
         key: v / ListTariff::KEY_UNIT,
@@ -102,18 +130,23 @@ pub fn tariff(words: &[u64], end: u32, c: Cursor, when: When) -> ListTariff
 // The width of a letter.
 pub const LETTER_BITS: u32 = 5;
 
-// A text: letters of 5 bits, one field. Its letters count only where there is no refusal.
+// A text: letters of 5 bits, one field, into letters lent as zeros. They count only where there is no refusal.
 pub fn text(words: &[u64], end: u32, c: Cursor, when: When, letters: &mut [u32]) -> Cursor
-    requires { ⌜ Ready (now words) end c × (length (now letters) ≤ 32) ⌝ }
+    requires { ⌜ Ready (now words) end c × ((length (now letters) ≤ 32) × (now letters ≡ replicate (length (now letters)) 0)) ⌝ }
     ensures { λ d. ⌜ Took (now (words .entry)) end c when (replicate (length (now (letters .entry))) 5) Rule.Any (now (letters .exit)) d ⌝ }
 {
-    let here = step::width(when, LETTER_BITS);
-    let n = letters.len() as u32;
-    let d = step::admit(c, end, n * here, false, 0, 0);
-    if d.why == 0 {
-        spell(words, c.at, here, letters);
+    if c.why != 0 {
+        return c;
     }
-    d
+    if !step::there(when) {
+        return step::absent(c, false);
+    }
+    let width = letters.len() as u32 * LETTER_BITS;
+    if end - c.at < width {
+        return step::past(c);
+    }
+    spell(words, c.at, LETTER_BITS, letters);
+    step::admit(c, end, width, false, 0, 0)
 }
 
 // The numbers of w bits one after the other from bit at on.
@@ -135,8 +168,13 @@ pub fn never(end: u32, c: Cursor, when: When, w: u32) -> Cursor
     requires { ⌜ (c .at ≤ end) × (end < w) ⌝ }
     ensures { λ d. ⌜ ((words : List ℕ) → end / 32 < length words → Took words end c when (w ∷ []) Rule.Any (0 ∷ []) d) ⌝ }
 {
-    let here = step::width(when, w);
-    step::admit(c, end, here, false, 0, 0)
+    if c.why != 0 {
+        return c;
+    }
+    if !step::there(when) {
+        return step::absent(c, false);
+    }
+    step::past(c)
 }
 
 // The end of a reading: 5 at the first one that is left.

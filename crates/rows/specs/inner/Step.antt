@@ -46,7 +46,7 @@ pub record Took (words : List ℕ) (end : ℕ) (c : Cursor) (t : When) (ws : Lis
   pub step :
       (bs : List Bool)
       → length bs ≡ end
-      → words ≡ cut 32 63 (length words) bs
+      → words ≡ cut 32 64 (length words) bs
       → (k : Cond) (rs : List Row) (i : ℕ) (seen : List ℕ)
       → told k seen ≡ t
       → resume end (boxesAt bs) (record { boxes = ws; cond = k; rule = rule } ∷ rs) i seen c
@@ -57,7 +57,7 @@ pub record Ended (words : List ℕ) (end : ℕ) (c d : Cursor) : Type 0 where
   pub says :
       (bs : List Bool)
       → length bs ≡ end
-      → words ≡ cut 32 63 (length words) bs
+      → words ≡ cut 32 64 (length words) bs
       → (i : ℕ) (seen : List ℕ)
       → andThen (resume end (boxesAt bs) [] i seen c) (ending bs) ≡ pick (eqb (d .why) 0) (done seen (d .at)) (refused (d .why) (d .at) 0)
 
