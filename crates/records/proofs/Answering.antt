@@ -18,6 +18,10 @@ use Rattle.rows.proofs.Running.{takes-read, puts-write}
 use Rattle.records.specs.Answer.{refusal, accepted, denied, written, answered, readRecord, writeRecord, areaLength, readArea, writeArea}
 use Rattle.records.specs.declared.Refusal.{Refusal}
 
+-- The words of a record are eight.
+pub eight-words : (bytes words : List ℕ) → words ≡ cut 32 64 8 (spread 8 bytes) → 8 ≡ length words
+eight-words bytes words cuts = sym (ap length cuts ∙ length-cut 32 64 8 (spread 8 bytes))
+
 module _ {A : Type 0} (good : List ℕ → A) (bad : Refusal → A) (rows : List Row) (bytes words : List ℕ) (all : List ℕ) (d e : Cursor) where
   -- An answer does not tell the row at fault.
   answered-said : (o : Outcome (List ℕ)) → answered good bad (said o) ≡ answered good bad o
@@ -25,7 +29,7 @@ module _ {A : Type 0} (good : List ℕ → A) (bad : Refusal → A) (rows : List
   answered-said (refused n at i) = refl
 
   module _ {room : ℕ} (long : 8 * length bytes ≡ room)
-      (cuts : words ≡ cut 32 63 (length words) (spread 8 bytes))
+      (cuts : words ≡ cut 32 64 (length words) (spread 8 bytes))
       (taken : Taken words room rows [] start all d)
       (ended : Ended words room d e) where
     says : answered good bad (read rows (spread 8 bytes)) ≡ answered good bad (tells e all)
@@ -40,19 +44,19 @@ module _ {A : Type 0} (good : List ℕ → A) (bad : Refusal → A) (rows : List
     says-refused why = says ∙ rw (ne-eqb _ _ why)
 
   module _ (whole : length bytes ≡ 29)
-      (cuts : words ≡ cut 32 63 (length words) (spread 8 bytes))
+      (cuts : words ≡ cut 32 64 8 (spread 8 bytes))
       (taken : Taken words 232 rows [] start all d)
       (ended : Ended words 232 d e) where
     pub record-read : e .why ≡ 0 → good all ≡ readRecord good bad rows bytes
     unfolding readRecord
-    record-read ok = rw (eq-eqb _ _ whole) (sym (says-read (rw whole) cuts taken ended ok))
+    record-read ok = rw (eq-eqb _ _ whole) (sym (says-read (rw whole) (rw (← eight-words bytes words cuts) cuts) taken ended ok))
 
     pub record-refused : (e .why ≡ 0 → ⊥) → bad (refusal (e .why) (e .at)) ≡ readRecord good bad rows bytes
     unfolding readRecord
-    record-refused why = rw (eq-eqb _ _ whole) (sym (says-refused (rw whole) cuts taken ended why))
+    record-refused why = rw (eq-eqb _ _ whole) (sym (says-refused (rw whole) (rw (← eight-words bytes words cuts) cuts) taken ended why))
 
   module _ (whole : areaLength (length bytes) ≡ true)
-      (cuts : words ≡ cut 32 63 (length words) (spread 8 bytes))
+      (cuts : words ≡ cut 32 64 (length words) (spread 8 bytes))
       (taken : Taken words (8 * length bytes) rows [] start all d)
       (ended : Ended words (8 * length bytes) d e) where
     pub area-read : e .why ≡ 0 → good all ≡ readArea good bad rows bytes
