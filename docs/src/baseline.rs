@@ -1,10 +1,6 @@
-//! The yardstick of `./bench`: reads contract lists (N = 8) and contracts of types 42h and 50h as fast as a careful
-//! Rust programmer would, with every check, place and order of faults of document 01.
-//!
-//! A record is copied once into a buffer with zeros after it. From then on one window is loaded for a run of fields, and
-//! their numbers are cut out of it. A window can begin anywhere in the buffer, so whether all fields lay inside the
-//! record is asked once, when they have been read; only where they did not is the first of them looked for. An answer is
-//! made in its place: to move a value into it would be to copy some 200 bytes.
+//! The yardstick of `./bench`: reads contract lists (N = 8) and contracts of types 42h and 50h as a careful Rust
+//! programmer would: field by field, each with its room and its rule, in the order of document 01. A record is copied once
+//! into a buffer with zeros after it; a field is cut out of the 64 bits from its byte on.
 
 use std::io::{self, Read};
 
@@ -31,8 +27,14 @@ fn refused<T>(number: u32, place: u32) -> Result<T, Refusal> {
 
 // ---------------------------------------------------------------- Bits
 
-/// A record with zeros after it: at least 32 bytes from every byte that the record has.
-type Padded = [u8; 64];
+/// A record with zeros after it: eight bytes from every byte that the record has, and whole words to the end.
+type Padded = [u8; 40];
+
+fn padded(record: &[u8; RECORD]) -> Padded {
+    let mut bytes = [0; 40];
+    bytes[..RECORD].copy_from_slice(record);
+    bytes
+}
 
 /// The bit reached in a record.
 struct Walk<'a> {
@@ -41,22 +43,10 @@ struct Walk<'a> {
 }
 
 impl Walk<'_> {
-    /// The byte reached. Past byte 31 it starts again: such a record is refused, whatever is read there.
-    fn byte(&self) -> usize {
-        self.place as usize / 8 % 32
-    }
-
     /// The bits from the place on, at least 57.
-    fn window(&self) -> Window {
-        let byte = self.byte();
-        Window(u64::from_be_bytes(self.bytes[byte..byte + 8].try_into().unwrap()) << (self.place % 8))
-    }
-
-    /// The bits from the place on, of which the next `width` have been passed.
-    fn pass(&mut self, width: u32) -> Window {
-        let window = self.window();
-        self.place += width;
-        window
+    fn window(&self) -> u64 {
+        let byte = self.place as usize / 8;
+        u64::from_be_bytes(self.bytes[byte..byte + 8].try_into().unwrap()) << (self.place % 8)
     }
 
     /// The next field, where it lies inside the record.
@@ -64,40 +54,35 @@ impl Walk<'_> {
         if self.place + width > RECORD_BITS {
             return refused(PAST_THE_END, self.place);
         }
-        Ok(self.pass(width).take(width))
+        let number = self.window() >> (64 - width);
+        self.place += width;
+        Ok(number as u32)
+    }
+
+    fn field_if(&mut self, present: bool, width: u32) -> Result<u32, Refusal> {
+        if present { self.field(width) } else { Ok(0) }
+    }
+
+    fn minute_if(&mut self, present: bool) -> Result<u32, Refusal> {
+        let place = self.place;
+        let minute = self.field_if(present, 11)?;
+        if minute > LAST_MINUTE {
+            return refused(OUT_OF_RANGE, place);
+        }
+        Ok(minute)
     }
 
     /// After the last field every bit is zero to the end.
     fn check_rest(&self) -> Result<(), Refusal> {
-        let (_, after) = self.bytes.split_at(self.byte() + 8);
-        let whole = |word: usize| u64::from_ne_bytes(after[8 * word..8 * word + 8].try_into().unwrap());
-        if self.window().0 | whole(0) | whole(1) | whole(2) != 0 {
-            return refused(ONE_AFTER, self.next_one());
+        let mut place = self.place;
+        while place < RECORD_BITS {
+            let window = Walk { place, ..*self }.window();
+            if window != 0 {
+                return refused(ONE_AFTER, place + window.leading_zeros());
+            }
+            place = place / 8 * 8 + 64;
         }
         Ok(())
-    }
-
-    #[cold]
-    fn next_one(&self) -> u32 {
-        let mut place = self.place;
-        loop {
-            let window = Walk { place, ..*self }.window().0;
-            if window != 0 {
-                return place + window.leading_zeros();
-            }
-            place += 57;
-        }
-    }
-}
-
-/// Bits still to be read, the next one at the top.
-struct Window(u64);
-
-impl Window {
-    fn take(&mut self, width: u32) -> u32 {
-        let number = self.0 >> (64 - width);
-        self.0 <<= width;
-        number as u32
     }
 }
 
@@ -129,95 +114,53 @@ const COMPLETE: u32 = 0b110;
 const NO_POINTERS: u32 = !0b1_1111_1110;
 
 fn read_list(record: &[u8; RECORD]) -> Result<ContractList, Refusal> {
-    let mut answer = Ok(ContractList::default());
-    if let Ok(list) = &mut answer {
-        if let Err(refusal) = fill_list(list, record) {
-            answer = Err(refusal);
-        }
-    }
-    answer
-}
-
-/// An entry of a list that can be accepted is three bytes long, or six with a network. So each begins four bits after
-/// the beginning of a byte.
-fn fill_list(list: &mut ContractList, record: &[u8; RECORD]) -> Result<(), Refusal> {
-    let mut bytes: Padded = [0; 64];
-    bytes[..RECORD].copy_from_slice(record);
-    list.count = u32::from(bytes[0] >> 4);
+    let bytes = padded(record);
+    let mut walk = Walk { bytes: &bytes, place: 0 };
+    let mut list = ContractList { count: walk.field(4)?, ..Default::default() };
     let Some(counted) = list.entries.get_mut(..list.count as usize) else {
         return refused(OUT_OF_RANGE, 0);
     };
     let mut taken = NO_POINTERS;
-    let mut byte = 0;
-    for entry in counted {
-        let first = four_bytes(&bytes, byte);
-        entry.bitmap = first >> 25 & 7;
-        if has(entry.bitmap, 0) {
-            entry.network = first >> 1 & 0xFF_FFFF;
-            byte += 3;
-        }
-        let last = four_bytes(&bytes, byte);
-        byte += 3;
-        entry.key = last >> 21 & 15;
-        entry.kind = last >> 13 & 255;
-        entry.priority = last >> 9 & 15;
-        entry.pointer = last >> 4 & 31;
-        if entry.bitmap & COMPLETE != COMPLETE || entry.priority == UNDEFINED_PRIORITY || has(taken, entry.pointer) {
-            return list_fault(&bytes);
+    let mut broken = 0;
+    for (number, entry) in (1..).zip(counted) {
+        read_entry(&mut walk, entry)?;
+        if broken == 0 && (entry.bitmap & COMPLETE != COMPLETE || has(taken, entry.pointer)) {
+            broken = number;
         }
         taken |= 1 << entry.pointer;
     }
-    let walk = Walk { bytes: &bytes, place: 8 * byte as u32 + 4 };
-    if walk.place > RECORD_BITS {
-        return list_fault(&bytes);
-    }
-    walk.check_rest()
-}
-
-/// Past byte 31 it starts again, as in `Walk::byte`.
-fn four_bytes(bytes: &Padded, byte: usize) -> u32 {
-    let byte = byte % 32;
-    u32::from_be_bytes(bytes[byte..byte + 4].try_into().unwrap())
-}
-
-/// Goes field by field over a list that cannot be accepted, to find the fault that comes first.
-#[cold]
-fn list_fault(bytes: &Padded) -> Result<(), Refusal> {
-    let mut walk = Walk { bytes, place: 0 };
-    let mut taken = NO_POINTERS;
-    let mut broken = 0;
-    for number in 1..=walk.field(4)? {
-        let bitmap = walk.field(3)?;
-        let mut pointer = 0;
-        if has(bitmap, 0) {
-            walk.field(24)?;
-        }
-        if has(bitmap, 1) && walk.field(16)? & 15 == UNDEFINED_PRIORITY {
-            return refused(OUT_OF_RANGE, walk.place - 16);
-        }
-        if has(bitmap, 2) {
-            pointer = walk.field(5)?;
-        }
-        if broken == 0 && (bitmap & COMPLETE != COMPLETE || has(taken, pointer)) {
-            broken = number;
-        }
-        taken |= 1 << pointer;
-    }
     walk.check_rest()?;
-    refused(LIST_RULE, broken)
+    if broken != 0 {
+        return refused(LIST_RULE, broken);
+    }
+    Ok(list)
+}
+
+fn read_entry(walk: &mut Walk, entry: &mut Entry) -> Result<(), Refusal> {
+    entry.bitmap = walk.field(3)?;
+    entry.network = walk.field_if(has(entry.bitmap, 0), 24)?;
+    if has(entry.bitmap, 1) {
+        let place = walk.place;
+        let tariff = walk.field(16)?;
+        entry.key = tariff >> 12;
+        entry.kind = tariff >> 4 & 255;
+        entry.priority = tariff & 15;
+        if entry.priority == UNDEFINED_PRIORITY {
+            return refused(OUT_OF_RANGE, place);
+        }
+    }
+    entry.pointer = walk.field_if(has(entry.bitmap, 2), 5)?;
+    Ok(())
 }
 
 // ---------------------------------------------------------------- Contract
 
-#[derive(Default)]
 enum Data {
-    #[default]
     Nothing,
     Carnet(Data42),
     Urban(Data50),
 }
 
-#[derive(Default)]
 struct Contract {
     bitmap: u32,
     provider: u32,
@@ -282,211 +225,111 @@ enum Kind {
 }
 
 fn read_contract(record: &[u8; RECORD], kind: Kind) -> Result<Contract, Refusal> {
-    let mut answer = Ok(Contract::default());
-    if let Ok(contract) = &mut answer {
-        if let Err(refusal) = fill_contract(contract, record, kind) {
-            answer = Err(refusal);
-        }
-    }
-    answer
-}
-
-fn fill_contract(contract: &mut Contract, record: &[u8; RECORD], kind: Kind) -> Result<(), Refusal> {
-    let mut bytes: Padded = [0; 64];
-    bytes[..RECORD].copy_from_slice(record);
+    let bytes = padded(record);
     let mut walk = Walk { bytes: &bytes, place: 0 };
-    *contract = read_head(&mut walk);
-    if !has(contract.bitmap, 6) {
-        return walk.check_rest();
+    let mut contract = read_head(&mut walk)?;
+    if has(contract.bitmap, 6) {
+        contract.data = match kind {
+            Kind::Carnet => Data::Carnet(read_data_42(&mut walk)?),
+            Kind::Urban => Data::Urban(read_data_50(&mut walk)?),
+        };
     }
-    match kind {
-        Kind::Carnet => {
-            contract.data = Data::Carnet(read_data_42(&mut walk)?);
-            walk.check_rest()
-        }
-        Kind::Urban => {
-            contract.data = Data::Urban(Data50::default());
-            let Data::Urban(data) = &mut contract.data else { unreachable!() };
-            fill_data_50(data, walk)
-        }
-    }
+    walk.check_rest()?;
+    Ok(contract)
 }
 
-/// The head is at most 109 bits, so it always fits.
-fn read_head(walk: &mut Walk) -> Contract {
-    let mut window = walk.pass(7);
-    let mut head = Contract { bitmap: window.take(7), ..Default::default() };
-    if has(head.bitmap, 0) {
-        head.provider = window.take(8);
-        walk.place += 8;
-    }
-    if has(head.bitmap, 1) {
-        head.tariff = window.take(16);
-        walk.place += 16;
-    }
-    if has(head.bitmap, 2) {
-        head.serial = window.take(32);
-        walk.place += 32;
-    }
-    let mut window = walk.window();
-    if has(head.bitmap, 3) {
-        head.class = window.take(8);
-        walk.place += 8;
-    }
-    if has(head.bitmap, 4) {
-        head.validity = window.take(2);
-        walk.place += 2;
-    }
-    if has(head.validity, 0) {
-        head.start = window.take(14);
-        walk.place += 14;
-    }
-    if has(head.validity, 1) {
-        head.end = window.take(14);
-        walk.place += 14;
-    }
-    if has(head.bitmap, 5) {
-        head.status = window.take(8);
-        walk.place += 8;
-    }
-    head
+fn read_head(walk: &mut Walk) -> Result<Contract, Refusal> {
+    let bitmap = walk.field(7)?;
+    let provider = walk.field_if(has(bitmap, 0), 8)?;
+    let tariff = walk.field_if(has(bitmap, 1), 16)?;
+    let serial = walk.field_if(has(bitmap, 2), 32)?;
+    let class = walk.field_if(has(bitmap, 3), 8)?;
+    let validity = walk.field_if(has(bitmap, 4), 2)?;
+    let start = walk.field_if(has(validity, 0), 14)?;
+    let end = walk.field_if(has(validity, 1), 14)?;
+    let status = walk.field_if(has(bitmap, 5), 8)?;
+    Ok(Contract { bitmap, provider, tariff, serial, class, validity, start, end, status, data: Data::Nothing })
 }
 
-/// These 99 bits fit after every head.
 fn read_data_42(walk: &mut Walk) -> Result<Data42, Refusal> {
-    let minute_place = walk.place + 41;
-    let mut sale = walk.pass(52);
-    let mut rest = walk.pass(47);
-    let data = Data42 {
-        pay_method: sale.take(11),
-        price: sale.take(16),
-        sale_date: sale.take(14),
-        sale_minute: sale.take(11),
-        agent: rest.take(8),
-        device: rest.take(16),
-        receipt: rest.take(1),
-        passengers: rest.take(8),
-        inhibition_end: rest.take(14),
+    Ok(Data42 {
+        pay_method: walk.field(11)?,
+        price: walk.field(16)?,
+        sale_date: walk.field(14)?,
+        sale_minute: walk.minute_if(true)?,
+        agent: walk.field(8)?,
+        device: walk.field(16)?,
+        receipt: walk.field(1)?,
+        passengers: walk.field(8)?,
+        inhibition_end: walk.field(14)?,
+    })
+}
+
+fn read_data_50(walk: &mut Walk) -> Result<Data50, Refusal> {
+    let mut data = Data50 {
+        end: walk.field(14)?,
+        grey_list: walk.field(14)?,
+        chrono: walk.field(16)?,
+        flag: walk.field(2)?,
+        groups: walk.field(16)?,
+        ..Default::default()
     };
-    if data.sale_minute > LAST_MINUTE {
-        return refused(OUT_OF_RANGE, minute_place);
-    }
+    read_groups_0_to_5(walk, &mut data)?;
+    read_groups_6_to_10(walk, &mut data)?;
+    read_groups_11_to_15(walk, &mut data)?;
     Ok(data)
 }
 
-/// The fields before the groups fit after every head. Inlined, the numbers would be kept apart first and put together
-/// at the end.
-#[inline(never)]
-fn fill_data_50(data: &mut Data50, mut walk: Walk) -> Result<(), Refusal> {
-    let mut window = walk.pass(46);
-    data.end = window.take(14);
-    data.grey_list = window.take(14);
-    data.chrono = window.take(16);
-    data.flag = window.take(2);
-    data.groups = walk.pass(16).take(16);
-    let first = Walk { ..walk };
-    take_groups_0_to_5(data, &mut walk);
-    take_groups_6_to_10(data, &mut walk);
-    take_groups_11_to_15(data, &mut walk)?;
-    if walk.place > RECORD_BITS {
-        return groups_past_the_end(data.groups, first);
-    }
-    walk.check_rest()
-}
-
-fn take_groups_0_to_5(data: &mut Data50, walk: &mut Walk) {
-    if has(data.groups, 0) {
-        data.agent = walk.pass(8).take(8);
-    }
+fn read_groups_0_to_5(walk: &mut Walk, data: &mut Data50) -> Result<(), Refusal> {
+    data.agent = walk.field_if(has(data.groups, 0), 8)?;
     if has(data.groups, 1) {
-        let mut window = walk.pass(42);
-        data.origin = window.take(14);
-        data.destination = window.take(14);
-        data.via = window.take(14);
+        data.origin = walk.field(14)?;
+        data.destination = walk.field(14)?;
+        data.via = walk.field(14)?;
     }
     if has(data.groups, 2) {
-        let mut window = walk.pass(32);
-        data.tokens = [window.take(16), window.take(16)];
-        let mut window = walk.pass(28);
-        data.autoload = [window.take(14), window.take(14)];
+        data.tokens = [walk.field(16)?, walk.field(16)?];
+        data.autoload = [walk.field(14)?, walk.field(14)?];
     }
     if has(data.groups, 3) {
-        let mut window = walk.pass(13);
-        data.balance = window.take(8);
-        data.last_debit = window.take(5);
+        data.balance = walk.field(8)?;
+        data.last_debit = walk.field(5)?;
     }
     if has(data.groups, 4) {
-        let mut window = walk.pass(35);
-        data.purse = window.take(19);
-        data.purse_debit = window.take(16);
+        data.purse = walk.field(19)?;
+        data.purse_debit = walk.field(16)?;
     }
-    if has(data.groups, 5) {
-        data.passengers = walk.pass(6).take(6);
-    }
+    data.passengers = walk.field_if(has(data.groups, 5), 6)?;
+    Ok(())
 }
 
-fn take_groups_6_to_10(data: &mut Data50, walk: &mut Walk) {
+fn read_groups_6_to_10(walk: &mut Walk, data: &mut Data50) -> Result<(), Refusal> {
     if has(data.groups, 6) {
-        let mut window = walk.pass(20);
-        data.period_end = window.take(14);
-        data.period_balance = window.take(6);
+        data.period_end = walk.field(14)?;
+        data.period_balance = walk.field(6)?;
     }
     if has(data.groups, 7) {
-        let mut window = walk.pass(18);
-        data.zones = [window.take(6), window.take(6), window.take(6)];
+        data.zones = [walk.field(6)?, walk.field(6)?, walk.field(6)?];
     }
     if has(data.groups, 8) {
-        let mut window = walk.pass(12);
-        data.sections = window.take(6);
-        data.sections_left = window.take(6);
+        data.sections = walk.field(6)?;
+        data.sections_left = walk.field(6)?;
     }
     if has(data.groups, 9) {
-        let mut window = walk.pass(56);
-        data.stops = [window.take(14), window.take(14), window.take(14), window.take(14)];
+        data.stops = [walk.field(14)?, walk.field(14)?, walk.field(14)?, walk.field(14)?];
     }
     if has(data.groups, 10) {
-        let mut window = walk.pass(28);
-        data.lines = [window.take(14), window.take(14)];
-    }
-}
-
-fn take_groups_11_to_15(data: &mut Data50, walk: &mut Walk) -> Result<(), Refusal> {
-    if has(data.groups, 11) {
-        data.weekly_limits = walk.pass(14).take(14);
-    }
-    if has(data.groups, 12) {
-        data.start = walk.pass(14).take(14);
-    }
-    if has(data.groups, 13) {
-        data.end_minute = walk.pass(11).take(11);
-        if data.end_minute > LAST_MINUTE && walk.place <= RECORD_BITS {
-            return refused(OUT_OF_RANGE, walk.place - 11);
-        }
-    }
-    if has(data.groups, 14) {
-        data.token = walk.pass(4).take(4);
-    }
-    if has(data.groups, 15) {
-        data.intermodal = walk.pass(4).take(4);
+        data.lines = [walk.field(14)?, walk.field(14)?];
     }
     Ok(())
 }
 
-/// The widths of the fields of each group.
-const GROUPS: [&[u32]; 16] = [
-    &[8], &[14, 14, 14], &[16, 16, 14, 14], &[8, 5], &[19, 16], &[6], &[14, 6], &[6, 6, 6], &[6, 6], &[14, 14, 14, 14],
-    &[14, 14], &[14], &[14], &[11], &[4], &[4],
-];
-
-#[cold]
-fn groups_past_the_end(groups: u32, mut walk: Walk) -> Result<(), Refusal> {
-    for (element, widths) in (0..).zip(GROUPS) {
-        if has(groups, element) {
-            for &width in widths {
-                walk.field(width)?;
-            }
-        }
-    }
+fn read_groups_11_to_15(walk: &mut Walk, data: &mut Data50) -> Result<(), Refusal> {
+    data.weekly_limits = walk.field_if(has(data.groups, 11), 14)?;
+    data.start = walk.field_if(has(data.groups, 12), 14)?;
+    data.end_minute = walk.minute_if(has(data.groups, 13))?;
+    data.token = walk.field_if(has(data.groups, 14), 4)?;
+    data.intermodal = walk.field_if(has(data.groups, 15), 4)?;
     Ok(())
 }
 
