@@ -3,13 +3,12 @@ ghost use mathlib.Core.Path.{_≡_};
 ghost use mathlib.Core.List.{List, [], _∷_, _++_};
 ghost use Prim.Native.Nat.{ℕ};
 ghost use lib.ListN.{length, take, drop};
-ghost use Rattle.rows.specs.Row.{pick};
 ghost use Rattle.rows.specs.inner.Step.{Ready, Drafted};
 ghost use Rattle.rows.specs.inner.Line.{start, Taken, Given, Puts};
 ghost use Rattle.rows.specs.table.Contract.{head, data42, data50};
 ghost use Rattle.contract.specs.Contract.{behind, headNumbers, numbers42, numbers50, follow, known, withData, agrees, carnet, urban, contractTold, contractRead, contractWritten};
-ghost use Rattle.contract.specs.inner.Steps.{TakenOf, disagreed, PutOf};
-ghost use Rattle.records.specs.Answer.{Written};
+ghost use Rattle.contract.specs.inner.Steps.{disagreed, PutOf};
+ghost use Rattle.records.specs.Answer.{refusal, Written};
 use records::BITS;
 use records::BYTES;
 use records::LAST_MINUTE;
@@ -18,8 +17,6 @@ use rows::Cursor;
 use rows::When;
 use rows::put;
 use rows::take;
-
-// The last minute of a day.
 
 // The data of type 42h.
 pub struct Data42 {
@@ -163,7 +160,7 @@ impl Data50 {
     };
 }
 
-// A contract as far as it is taken, and the cursor behind its last field.
+// The head, and the cursor behind its last field.
 struct Fields {
     value: Contract,
     last: Cursor,
@@ -200,49 +197,54 @@ pub fn read(bytes: &[u8], kind: u32) -> ContractRead
     }
     let mut words = [0u64; 8];
     bits::words(bytes, &mut words);
-    let fields = take_fields(&words, kind);
+    let fields = take_head(&words);
+    let head = fields.value;
     let last = fields.last;
+    if kind == Contract::CARNET {
+        let carnet = take_carnet(&words, last, head.bitmap);
+        let last = carnet.last;
+        let end = take::end(&words, BITS, last);
+        if end.why != 0 {
+            return refused(end);
+        }
+        if follow(head.bitmap) {
+            let data = carnet.data;
+            return ContractRead::Read(with_data(head, Data::Carnet(data)));
+        }
+        return ContractRead::Read(with_data(head, Data::Nothing));
+    }
+    let urban = take_urban(&words, last, head.bitmap);
+    let last = urban.last;
     let end = take::end(&words, BITS, last);
     if end.why != 0 {
-        return ContractRead::Refused(Refusal {
-            number: end.why,
-            place: end.at,
-        });
+        return refused(end);
     }
-    let value = fields.value;
-    ContractRead::Read(value)
+    if follow(head.bitmap) {
+        let data = urban.data;
+        return ContractRead::Read(with_data(head, Data::Urban(data)));
+    }
+    ContractRead::Read(with_data(head, Data::Nothing))
 }
 
-fn take_fields(words: &[u64], kind: u32) -> Fields
-    requires { ⌜ length (now words) ≡ 8 ⌝ }
-    ensures { λ r. ⌜ TakenOf (now (words .entry)) kind (r .value) (r .last) ⌝ }
+fn refused(end: Cursor) -> ContractRead
+    ensures { λ r. ⌜ r ≡ ContractRead.Refused (refusal (end .why) (end .at)) ⌝ }
 {
-    let head = take_head(words);
-    let value = head.value;
-    let last = head.last;
-    if kind == Contract::CARNET {
-        let carnet = take_carnet(words, last, value.bitmap);
-        let data = carnet.data;
-        let last = carnet.last;
-        let value = with_data(value, Data::Carnet(data));
-        return Fields { value, last };
-    }
-    let urban = take_urban(words, last, value.bitmap);
-    let data = urban.data;
-    let last = urban.last;
-    let value = with_data(value, Data::Urban(data));
-    Fields { value, last }
+    ContractRead::Refused(Refusal {
+        number: end.why,
+        place: end.at,
+    })
 }
 
-// The head with its data, where bit [6] of the bitmap says that they follow.
+// Whether the data follow the head: bit [6] of its bitmap.
+fn follow(bitmap: u32) -> bool
+    ensures { λ r. ⌜ r ≡ follow bitmap ⌝ }
+{
+    (bitmap >> 6) % 2 == 1
+}
+
 fn with_data(head: Contract, data: Data) -> Contract
-    ensures { λ r. ⌜ r ≡ withData head (pick (follow (head .bitmap)) «data» Data.Nothing) ⌝ }
+    ensures { λ r. ⌜ r ≡ withData head «data» ⌝ }
 {
-    let data = if (head.bitmap >> 6) % 2 == 1 {
-        data
-    } else {
-        Data::Nothing
-    };
     Contract {
         bitmap: head.bitmap,
         provider: head.provider,
@@ -516,7 +518,7 @@ fn put_fields(draft: &mut [u64], kind: u32, c: Contract) -> Cursor
 fn agrees(kind: u32, c: Contract) -> bool
     ensures { λ r. ⌜ r ≡ agrees kind c ⌝ }
 {
-    let follow = (c.bitmap >> 6) % 2 == 1;
+    let follow = follow(c.bitmap);
     let data = c.data;
     match data {
         Data::Nothing => !follow,

@@ -5,17 +5,11 @@ use mathlib.Core.List.{List, []}
 use mathlib.Core.Path.{_≡_}
 use lib.Dec.{eqb}
 use Rattle.rows.specs.Row.{pick}
-use Rattle.rows.specs.inner.Line.{start, Taken, Puts}
+use Rattle.rows.specs.inner.Line.{start, Puts}
 use Rattle.rows.specs.declared.Cursor.{Cursor}
 use Rattle.rows.specs.table.Contract.{head}
-use Rattle.contract.specs.Contract.{tableOf, contractOf, headNumbers, numbersOf, agrees}
+use Rattle.contract.specs.Contract.{tableOf, headNumbers, numbersOf, agrees}
 use Rattle.contract.specs.declared.Contract.{Contract}
-
--- The takes of a contract of a type: they took the numbers of its table, and the value is made of these.
-pub record TakenOf (words : List ℕ) (kind : ℕ) (value : Contract) (last : Cursor) : Type 0 where
-  pub all : List ℕ
-  pub taken : Taken words 232 (tableOf kind) [] start all last
-  pub made : contractOf kind all ≡ value
 
 -- A cursor behind the head, where the data do not agree.
 abbrev pub disagreed : Cursor → Cursor
