@@ -308,7 +308,7 @@ fn read_area(bytes: &[u8]) -> HolderRead
 {
     let end = 8 * bytes.len() as u32;
     let mut words = [0u64; 30];
-    bits::words(bytes, &mut words);
+    bits::area_words(bytes, &mut words);
     let fields = take_fields(&words, end);
     let last = fields.last;
     let c = take::end(&words, end, last);

@@ -12,7 +12,7 @@ returns : tie.Need-returns
 returns c = let falls = c .before .before .before .before .before .before .before .keep-only .last .1 .1 .0 in
     let words = c .before .before .before .words2 .last .1 .0 in
     let long : length (spread 8 falls) ≡ 232 = length-spread 8 falls ∙ ap (λ (n : ℕ). 8 * n) (c .before .before .before .before .before .before .before .keep-only .kept .1 .1 .0) in
-    let cuts : words ≡ cut 32 63 (length words) (spread 8 falls) = rw (c .before .before .before .words2 .kept .1 .0) (c .before .before .before .words2 .ensures) in
+    let cuts : words ≡ cut 32 64 8 (spread 8 falls) = rw (c .before .before .before .words2 .kept .1 .0) (c .before .before .before .words2 .ensures) in
     let found = c .next-one .ensures (spread 8 falls) long cuts in
     found ∙ zero-add _ ∙ ap leading (c .before .before .before .before .before .before .before .keep-only .ensures)
 
