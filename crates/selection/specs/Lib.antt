@@ -1,2 +1,3 @@
 pub mod Eligible
 pub mod Selection
+pub mod inner

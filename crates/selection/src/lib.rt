@@ -1,7 +1,10 @@
 // Which contract a gate uses, and the change of a priority.
 ghost use mathlib.Core.Path.{_≡_};
 ghost use Rattle.records.specs.Answer.{Written};
-ghost use Rattle.selection.specs.Eligible.{chosenAt, opens, notBefore, notAfter, dataInForce, inForce, eligible, better};
+ghost use Rattle.records.specs.Order.{recordAt};
+ghost use Rattle.contract.specs.Contract.{contractRead};
+ghost use Rattle.selection.specs.Eligible.{chosenAt, opens, notBefore, notAfter, dataInForce, inForce, serves, eligible, goesBefore, better};
+ghost use Rattle.selection.specs.inner.Question.{mayOpen, inQuestion};
 ghost use Rattle.selection.specs.Selection.{unselected, choice, selected, partOf, changing};
 use contract::Contract;
 use contract::ContractRead;
@@ -92,40 +95,78 @@ pub fn part(file: &[u8], selected: Selected) -> &[u8]
 fn choose(list: ContractList, file: &[u8], day: u32, operator: u32) -> Selected
     ensures { λ r. ⌜ r ≡ choice day operator (now (file .entry)) list ⌝ }
 {
+    let n = list.len();
     let mut best = Selected::NOBODY;
     let mut i = 0;
-    while i < 8 {
-        let entry = list.entries[i];
-        if (i as u32) < list.count {
-            let ok = eligible(entry, file, day, operator);
-            best = better(ok, i as u32 + 1, entry, best);
-        }
+    while i < n {
+        best = better(i as u32 + 1, list.entries[i], best, file, day, operator);
         i += 1;
     }
     best
 }
 
-// The choice so far, or the entry at this position where it is eligible and goes before that.
-fn better(ok: bool, position: u32, entry: Entry, best: Selected) -> Selected
-    ensures { λ r. ⌜ r ≡ better ok position entry best ⌝ }
+// The choice so far, or the entry at this position where it is eligible and goes before that. Its record is read only where
+// the entry itself leaves that open; records that no entry lists are not looked at.
+fn better(
+    position: u32,
+    entry: Entry,
+    best: Selected,
+    file: &[u8],
+    day: u32,
+    operator: u32,
+) -> Selected
+    ensures { λ r. ⌜ r ≡ better (eligible day operator (now (file .entry)) entry) position entry best ⌝ }
 {
-    if ok & ((best.position == 0) | (entry.priority < best.priority)) {
-        return Selected::at(position, entry);
+    if in_question(operator, entry, best) {
+        if serves(entry, file, day, operator) {
+            return Selected::at(position, entry);
+        }
     }
     best
 }
 
-// Records that no entry lists are not looked at.
-fn eligible(entry: Entry, file: &[u8], day: u32, operator: u32) -> bool
-    ensures { λ r. ⌜ r ≡ eligible day operator (now (file .entry)) entry ⌝ }
+fn in_question(operator: u32, entry: Entry, best: Selected) -> bool
+    ensures { λ r. ⌜ r ≡ inQuestion operator entry best ⌝ }
+{
+    if entry.priority <= Entry::LAST_USABLE {
+        if goes_before(entry, best) {
+            return may_open(operator, entry.key);
+        }
+    }
+    false
+}
+
+fn goes_before(entry: Entry, best: Selected) -> bool
+    ensures { λ r. ⌜ r ≡ goesBefore entry best ⌝ }
+{
+    (best.position == 0) | (entry.priority < best.priority)
+}
+
+// What a key tells without the contract's provider.
+fn may_open(operator: u32, key: u32) -> bool
+    ensures { λ r. ⌜ r ≡ mayOpen operator key ⌝ }
+{
+    if key == Entry::OPEN_KEY {
+        return true;
+    }
+    if key == Entry::PROVIDER_KEY {
+        return Entry::PROVIDER_KEY <= operator;
+    }
+    key == operator
+}
+
+// Whether the entry's record reads, opens and is in force.
+fn serves(entry: Entry, file: &[u8], day: u32, operator: u32) -> bool
+    ensures { λ r. ⌜ r ≡ serves day operator entry (contractRead (entry .kind) (recordAt (now (file .entry)) (entry .pointer))) ⌝ }
 {
     let part = records::part(file, entry.pointer);
     let ContractRead::Read(contract) = contract::read(part, entry.kind) else {
         return false;
     };
-    (entry.priority <= Entry::LAST_USABLE)
-        & opens(operator, entry.key, contract)
-        & in_force(day, contract)
+    if opens(operator, entry.key, contract) {
+        return in_force(day, contract);
+    }
+    false
 }
 
 fn opens(operator: u32, key: u32, contract: Contract) -> bool
