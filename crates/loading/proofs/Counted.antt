@@ -10,9 +10,12 @@ use lib.ListN.{length, getD, take, drop, length-take, drop-of-length-le}
 use lib.Seq.{drop-cons, getD-take}
 use borrow.Author.Tests.{ltb-true, ltb-false, leb-true}
 use Rattle.rows.specs.Row.{pick}
+use Rattle.lists.specs.Entries.{counted}
 use Rattle.lists.specs.declared.list.Entry.{Entry}
+use Rattle.lists.specs.declared.list.ContractList.{ContractList}
 use Rattle.loading.specs.Blocking.{some}
-use Rattle.loading.specs.Place.{free, within, erasable, lowestFree, firstErasable}
+use Rattle.loading.specs.Place.{within, erasable, firstErasable}
+use Rattle.loading.specs.inner.Marks.{marked, lowestUnmarked}
 
 module _ {A : Type 0} where
   -- The counted ones from i on are number i, where it is counted, and the rest.
@@ -46,23 +49,24 @@ module _ {A : Type 0} where
       go true x rest f = rw f
       go false x rest f = rw (← f)
 
-pub erasable-more : (blocked : ℕ → Bool) (first last n : ℕ) (l : List Entry) (i : ℕ) (d : Entry) → i < length l
-    → (ok b : Bool) → ok ≡ within first last (getD l i d .pointer) && erasable blocked (getD l i d) → (ltb i n && ok) ≡ b
-    → firstErasable blocked first last (drop i (take n l)) ≡ pick b (getD l i d .pointer) (firstErasable blocked first last (drop (i + 1) (take n l)))
-erasable-more blocked first last n l i d long ok b one e =
-    ap (firstErasable blocked first last) (counted-more n l i d long) ∙ go (ltb i n) (getD l i d) (drop (i + 1) (take n l)) one e
-  where
-    go : (k : Bool) (x : Entry) (rest : List Entry) → ok ≡ within first last (x .pointer) && erasable blocked x → (k && ok) ≡ b
-        → firstErasable blocked first last (pick k (x ∷ rest) rest) ≡ pick b (x .pointer) (firstErasable blocked first last rest)
-    go true x rest one f = rw (← one, f)
-    go false x rest one f = rw (← f)
+-- A counted entry and those behind it.
+pub counted-next : (l : ContractList) (i : ℕ) (d : Entry) → i < length (counted l) → drop i (counted l) ≡ getD (l .entries) i d ∷ drop (i + 1) (counted l)
+counted-next l i d h =
+    let below : i < l .count = omega (arith, length-take (l .count) (l .entries)) in
+    rw (drop-cons (counted l) i d h, getD-take (l .count) (l .entries) i d below, ← add-one i)
 
-pub lowest-more : (es : List Entry) (n first i : ℕ) → i < n → (b : Bool) → b ≡ free es (first + i)
-    → lowestFree es (n - i) (first + i) ≡ pick b (first + i) (lowestFree es (n - (i + 1)) (first + (i + 1)))
-lowest-more es n first i h b e =
+pub erasable-more : (blocked : ℕ → Bool) (first last : ℕ) (l : ContractList) (i : ℕ) (d : Entry) → i < length (counted l)
+    → (ok : Bool) → ok ≡ within first last (getD (l .entries) i d .pointer) && erasable blocked (getD (l .entries) i d)
+    → firstErasable blocked first last (drop i (counted l)) ≡ pick ok (getD (l .entries) i d .pointer) (firstErasable blocked first last (drop (i + 1) (counted l)))
+erasable-more blocked first last l i d h ok one =
+    ap (firstErasable blocked first last) (counted-next l i d h) ∙ rw (← one)
+
+pub lowest-more : (marks : List Bool) (n first i : ℕ) → i < n
+    → lowestUnmarked marks (n - i) (first + i) ≡ pick (marked marks (first + i)) (lowestUnmarked marks (n - (i + 1)) (first + (i + 1))) (first + i)
+lowest-more marks n first i h =
     let more : n - i ≡ suc (n - (i + 1)) = omega arith in
     let on : suc (first + i) ≡ first + (i + 1) = omega arith in
-    rw (more, e, on)
+    rw (more, on)
 
 pub upto : (first last p : ℕ) → within first last p ≡ true → p ≤ last
 upto first last p h = go (leb first p) h

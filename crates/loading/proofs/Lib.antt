@@ -1,4 +1,5 @@
 pub mod Counted
+pub mod Used
 pub mod Told
 pub mod Marks
 pub mod Placing
