@@ -199,10 +199,13 @@ fn not_after(day: u32, end: u32) -> bool
 fn in_force(day: u32, contract: Contract) -> bool
     ensures { λ r. ⌜ r ≡ inForce day contract ⌝ }
 {
-    let data = contract.data;
-    not_before(day, contract.start_date)
-        & not_after(day, contract.end_date)
-        & data_in_force(day, data)
+    if not_before(day, contract.start_date) {
+        if not_after(day, contract.end_date) {
+            let data = contract.data;
+            return data_in_force(day, data);
+        }
+    }
+    false
 }
 
 fn data_in_force(day: u32, data: Data) -> bool
