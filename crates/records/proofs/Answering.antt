@@ -22,6 +22,9 @@ use Rattle.records.specs.declared.Refusal.{Refusal}
 pub eight-words : (bytes words : List ℕ) → words ≡ cut 32 64 8 (spread 8 bytes) → 8 ≡ length words
 eight-words bytes words cuts = sym (ap length cuts ∙ length-cut 32 64 8 (spread 8 bytes))
 
+pub all-words : (bytes words : List ℕ) → words ≡ cut 32 64 8 (spread 8 bytes) → words ≡ cut 32 64 (length words) (spread 8 bytes)
+all-words bytes words cuts = rw (← eight-words bytes words cuts) cuts
+
 module _ {A : Type 0} (good : List ℕ → A) (bad : Refusal → A) (rows : List Row) (bytes words : List ℕ) (all : List ℕ) (d e : Cursor) where
   -- An answer does not tell the row at fault.
   answered-said : (o : Outcome (List ℕ)) → answered good bad (said o) ≡ answered good bad o
@@ -49,11 +52,11 @@ module _ {A : Type 0} (good : List ℕ → A) (bad : Refusal → A) (rows : List
       (ended : Ended words 232 d e) where
     pub record-read : e .why ≡ 0 → good all ≡ readRecord good bad rows bytes
     unfolding readRecord
-    record-read ok = rw (eq-eqb _ _ whole) (sym (says-read (rw whole) (rw (← eight-words bytes words cuts) cuts) taken ended ok))
+    record-read ok = rw (eq-eqb _ _ whole) (sym (says-read (rw whole) (all-words bytes words cuts) taken ended ok))
 
     pub record-refused : (e .why ≡ 0 → ⊥) → bad (refusal (e .why) (e .at)) ≡ readRecord good bad rows bytes
     unfolding readRecord
-    record-refused why = rw (eq-eqb _ _ whole) (sym (says-refused (rw whole) (rw (← eight-words bytes words cuts) cuts) taken ended why))
+    record-refused why = rw (eq-eqb _ _ whole) (sym (says-refused (rw whole) (all-words bytes words cuts) taken ended why))
 
   module _ (whole : areaLength (length bytes) ≡ true)
       (cuts : words ≡ cut 32 64 (length words) (spread 8 bytes))
