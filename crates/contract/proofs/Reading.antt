@@ -1,12 +1,11 @@
 -- From the takes of the head and of a type's data to the answer about a record's bytes.
 use Prim.Native.Nat.{ℕ}
-use mathlib.Core.List.{List, [], _∷_, _++_}
-use mathlib.Core.Bool.{Bool, true, false}
+use mathlib.Core.List.{List, [], _++_}
+use mathlib.Core.Bool.{true, false}
 use mathlib.Core.Path.{_≡_, ap, _∙_}
 use lib.ListN.{length}
 use borrow.Author.Tests.{eq-eqb}
 use Rattle.bits.specs.Bits.{cut, spread}
-use Rattle.rows.specs.Row.{pick}
 use Rattle.rows.specs.inner.Step.{Ended}
 use Rattle.rows.specs.inner.Line.{start, Taken}
 use Rattle.rows.specs.declared.Cursor.{Cursor}
@@ -14,7 +13,7 @@ use Rattle.rows.specs.table.Contract.{head, data42, data50, contract42, contrac
 use Rattle.rows.proofs.Running.{takes-append}
 use Rattle.records.specs.Answer.{refusal}
 use Rattle.records.proofs.Answering.{record-read, record-refused}
-use Rattle.contract.specs.Contract.{behind, headNumbers, numbers42, numbers50, isCarnet, tableOf, follow, known, withData, contractOf, contractTold, contractRead}
+use Rattle.contract.specs.Contract.{headNumbers, numbers42, numbers50, isCarnet, tableOf, follow, known, withData, contractOf, contractTold, contractRead}
 use Rattle.contract.specs.declared.Contract.{Contract}
 use Rattle.contract.specs.declared.Data42.{Data42}
 use Rattle.contract.specs.declared.Data50.{Data50}

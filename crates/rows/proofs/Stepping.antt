@@ -1,12 +1,12 @@
 -- One step of a walk in code is one step of its meaning: what `admit` makes of a cursor stands for the same answer.
 use Prim.Native.Nat.{ℕ, suc, _+_, _≤_, _<_, zero, _*_}
 use mathlib.Core.List.{List, [], _∷_, _++_, map}
-use mathlib.Core.Bool.{Bool, true, false, true≢false, not}
+use mathlib.Core.Bool.{Bool, true, false, not}
 use mathlib.Core.Path.{_≡_, refl, sym, ap, _∙_}
 use native.Mathlib.Omega.{arith}
 use lib.Dec.{eqb, ltb}
 use lib.ListN.{length, getD, replicate}
-use borrow.Author.Tests.{eq-eqb, lt-ltb, le-ltb, ltb-false, eqb-true, eqb-false}
+use borrow.Author.Tests.{eq-eqb, lt-ltb, le-ltb, ltb-false, eqb-true, eqb-false, not-true, not-false}
 use Rattle.rows.specs.Row.{Row, Cond, pick, told, holds, broken}
 use Rattle.rows.specs.Walk.{done, refused, andThen, Source, walk, field, total, there, exceeds, fault}
 use Rattle.rows.specs.inner.Step.{settled, admitted, said, resume}
@@ -151,44 +151,11 @@ broken-none Tariff ws = rw (getD-none ws 2)
 broken-none NoSecond ws = rw (getD-none ws 0)
 
 -- A field that code found to be there is, and one that it did not find is absent.
-pub not-false : (b : Bool) → not b ≡ false → b ≡ true
-not-false true e = refl
-not-false false e = absurd (true≢false e)
-
-pub not-true : (b : Bool) → not b ≡ true → b ≡ false
-not-true true e = absurd (true≢false (sym e))
-not-true false e = refl
-
 pub on : (b : Bool) (t : When) → b ≡ holds t → not b ≡ false → holds t ≡ true
 on b t e f = sym e ∙ not-false b f
 
 pub off : (b : Bool) (t : When) → b ≡ holds t → not b ≡ true → holds t ≡ false
 off b t e f = sym e ∙ not-true b f
-
--- One box, on the card and in its table.
-pub there-one : (t : When) (w : ℕ) → there t (w ∷ []) ≡ pick (holds t) w 0 ∷ []
-there-one t w = go (holds t)
-  where
-    go : (b : Bool) → pick b (w ∷ []) (0 ∷ []) ≡ pick b w 0 ∷ []
-    go true = refl
-    go false = refl
-
--- A box is no wider on the card than in its table.
-pub box-width : (t : When) (w h m : ℕ) → h ≡ pick (holds t) w 0 → w ≤ m → h ≤ m
-box-width t w h m here narrow = rw here (go (holds t))
-  where
-    go : (b : Bool) → pick b w 0 ≤ m
-    go true = narrow
-    go false = omega arith
-
--- Boxes of one width, on the card and in their table.
-pub there-same : (t : When) (n w : ℕ) → there t (replicate n w) ≡ replicate n (pick (holds t) w 0)
-there-same t n w = go (holds t) n
-  where
-    go : (b : Bool) (n : ℕ) → pick b (replicate n w) (map (λ (x : ℕ). 0) (replicate n w)) ≡ replicate n (pick b w 0)
-    go true n = refl
-    go false zero = refl
-    go false (suc n) = ap (λ (l : List ℕ). 0 ∷ l) (go false n)
 
 pub total-same : (n w : ℕ) → total (replicate n w) ≡ n * w
 total-same zero w = omega arith

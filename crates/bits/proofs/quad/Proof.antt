@@ -1,6 +1,6 @@
 -- Four numbers of eight bits are one of 32.
 use Prim.Native.Nat.{_+_, _*_}
-use mathlib.Core.Path.{_≡_, refl, _∙_}
+use mathlib.Core.Path.{refl, _∙_}
 use native.Mathlib.Omega.{arith}
 use Rattle.bits.specs.Bits.{spread}
 use Rattle.bits.proofs.Fronts.{part-padded}

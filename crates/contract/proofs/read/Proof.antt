@@ -1,5 +1,5 @@
 use mathlib.Core.List.{_++_}
-use mathlib.Core.Path.{_≡_, sym, _∙_}
+use mathlib.Core.Path.{sym, _∙_}
 use lib.Dec.{lit<}
 use borrow.Author.Tests.{eq-eqb, ne-eqb, not-true, not-false}
 use Rattle.contract.specs.Contract.{headNumbers, numbers42, numbers50}
@@ -18,20 +18,20 @@ end-requires : tie.Need-end-requires
 end-requires c κs = (c .before .before .take-carnet .ensures (c .before .before .before .before .before .before .before .take-head .result .value) .ready, lit< tt)
 
 returns-3 : tie.Need-returns-3
-returns-3 c = 
+returns-3 c =
     told-refused (c .before .before .before .before .before .before .before .before .before .before .before .before .before .before .before .before .before .before .before .args .kind) (c .before .before .before .before .before .before .before .before .before .before .before .before .before .before .before .before .before .before .before .args .bytes .now) (c .before .before .before .before .before .before .before .before .before .before .before .before .before .words2 .last .1 .0) (headNumbers (c .before .before .before .before .before .before .before .before .before .before .before .take-head .result .value) ++ numbers42 (c .before .before .before .before .before .before .take-carnet .result .«data»)) (c .before .before .before .before .before .before .take-carnet .result .last) (c .before .before .before .end .result) (c .before .before .before .before .before .before .before .before .before .before .before .before .before .before .before .before .before .if1 .left) (sym (c .before .before .before .before .before .before .before .before .before .before .before .before .before .before .before .before .known .ensures) ∙ not-false _ (c .before .before .before .before .before .before .before .before .before .before .before .before .before .before .before .if2 .left)) (c .before .before .before .before .before .before .before .before .before .before .before .before .before .words2 .ensures)
     (taken42 _ (c .before .before .before .before .before .before .before .before .before .before .before .before .before .before .before .before .before .before .before .args .kind) (c .before .before .before .before .before .before .before .before .before .before .before .take-head .result .value) _ _ (c .before .before .before .before .before .before .before .before .before .before .before .take-head .ensures) (c .before .before .before .before .before .before .take-carnet .result .«data») (eq-eqb _ _ (c .before .before .before .before .before .before .before .before .if3 .taken)) (c .before .before .before .before .before .before .take-carnet .ensures (c .before .before .before .before .before .before .before .before .before .before .before .take-head .result .value)))
     (c .before .before .before .end .ensures) _ (c .refused .ensures) (c .before .if4 .taken)
 
 returns-4 : tie.Need-returns-4
-returns-4 c = 
+returns-4 c =
     told-read (c .before .before .before .before .before .before .before .before .before .before .before .before .before .before .before .before .before .before .before .before .before .before .args .kind) (c .before .before .before .before .before .before .before .before .before .before .before .before .before .before .before .before .before .before .before .before .before .before .args .bytes .now) (c .before .before .before .before .before .before .before .before .before .before .before .before .before .before .before .before .words2 .last .1 .0) (headNumbers (c .before .before .before .before .before .before .before .before .before .before .before .before .before .before .take-head .result .value) ++ numbers42 (c .before .before .before .before .before .before .before .before .before .take-carnet .result .«data»)) (c .before .before .before .before .before .before .before .before .before .take-carnet .result .last) (c .before .before .before .before .before .before .end .result) (c .before .before .before .before .before .before .before .before .before .before .before .before .before .before .before .before .before .before .before .before .if1 .left) (sym (c .before .before .before .before .before .before .before .before .before .before .before .before .before .before .before .before .before .before .before .known .ensures) ∙ not-false _ (c .before .before .before .before .before .before .before .before .before .before .before .before .before .before .before .before .before .before .if2 .left)) (c .before .before .before .before .before .before .before .before .before .before .before .before .before .before .before .before .words2 .ensures)
     (taken42 _ (c .before .before .before .before .before .before .before .before .before .before .before .before .before .before .before .before .before .before .before .before .before .before .args .kind) (c .before .before .before .before .before .before .before .before .before .before .before .before .before .before .take-head .result .value) _ _ (c .before .before .before .before .before .before .before .before .before .before .before .before .before .before .take-head .ensures) (c .before .before .before .before .before .before .before .before .before .take-carnet .result .«data») (eq-eqb _ _ (c .before .before .before .before .before .before .before .before .before .before .before .if3 .taken)) (c .before .before .before .before .before .before .before .before .before .take-carnet .ensures (c .before .before .before .before .before .before .before .before .before .before .before .before .before .before .take-head .result .value)))
     (c .before .before .before .before .before .before .end .ensures)
     _ (c .with-data .ensures ∙ sym (made42 (c .before .before .before .before .before .before .before .before .before .before .before .before .before .before .before .before .before .before .before .before .before .before .args .kind) (c .before .before .before .before .before .before .before .before .before .before .before .before .before .before .take-head .result .value) (c .before .before .before .before .before .before .before .before .before .take-carnet .result .«data») (eq-eqb _ _ (c .before .before .before .before .before .before .before .before .before .before .before .if3 .taken)) (sym (c .before .before .before .follow .ensures) ∙ c .before .before .if5 .taken))) (c .before .before .before .before .if4 .left)
 
 returns-5 : tie.Need-returns-5
-returns-5 c = 
+returns-5 c =
     told-read (c .before .before .before .before .before .before .before .before .before .before .before .before .before .before .before .before .before .before .before .before .before .args .kind) (c .before .before .before .before .before .before .before .before .before .before .before .before .before .before .before .before .before .before .before .before .before .args .bytes .now) (c .before .before .before .before .before .before .before .before .before .before .before .before .before .before .before .words2 .last .1 .0) (headNumbers (c .before .before .before .before .before .before .before .before .before .before .before .before .before .take-head .result .value) ++ numbers42 (c .before .before .before .before .before .before .before .before .take-carnet .result .«data»)) (c .before .before .before .before .before .before .before .before .take-carnet .result .last) (c .before .before .before .before .before .end .result) (c .before .before .before .before .before .before .before .before .before .before .before .before .before .before .before .before .before .before .before .if1 .left) (sym (c .before .before .before .before .before .before .before .before .before .before .before .before .before .before .before .before .before .before .known .ensures) ∙ not-false _ (c .before .before .before .before .before .before .before .before .before .before .before .before .before .before .before .before .before .if2 .left)) (c .before .before .before .before .before .before .before .before .before .before .before .before .before .before .before .words2 .ensures)
     (taken42 _ (c .before .before .before .before .before .before .before .before .before .before .before .before .before .before .before .before .before .before .before .before .before .args .kind) (c .before .before .before .before .before .before .before .before .before .before .before .before .before .take-head .result .value) _ _ (c .before .before .before .before .before .before .before .before .before .before .before .before .before .take-head .ensures) (c .before .before .before .before .before .before .before .before .take-carnet .result .«data») (eq-eqb _ _ (c .before .before .before .before .before .before .before .before .before .before .if3 .taken)) (c .before .before .before .before .before .before .before .before .take-carnet .ensures (c .before .before .before .before .before .before .before .before .before .before .before .before .before .take-head .result .value)))
     (c .before .before .before .before .before .end .ensures)
@@ -41,20 +41,20 @@ end-requires-2 : tie.Need-end-requires-2
 end-requires-2 c κs = (c .before .before .take-urban .ensures (c .before .before .before .before .before .before .before .take-head .result .value) .ready, lit< tt)
 
 returns-6 : tie.Need-returns-6
-returns-6 c = 
+returns-6 c =
     told-refused (c .before .before .before .before .before .before .before .before .before .before .before .before .before .before .before .before .before .before .before .args .kind) (c .before .before .before .before .before .before .before .before .before .before .before .before .before .before .before .before .before .before .before .args .bytes .now) (c .before .before .before .before .before .before .before .before .before .before .before .before .before .words2 .last .1 .0) (headNumbers (c .before .before .before .before .before .before .before .before .before .before .before .take-head .result .value) ++ numbers50 (c .before .before .before .before .before .before .take-urban .result .«data»)) (c .before .before .before .before .before .before .take-urban .result .last) (c .before .before .before .end2 .result) (c .before .before .before .before .before .before .before .before .before .before .before .before .before .before .before .before .before .if1 .left) (sym (c .before .before .before .before .before .before .before .before .before .before .before .before .before .before .before .before .known .ensures) ∙ not-false _ (c .before .before .before .before .before .before .before .before .before .before .before .before .before .before .before .if2 .left)) (c .before .before .before .before .before .before .before .before .before .before .before .before .before .words2 .ensures)
     (taken50 _ (c .before .before .before .before .before .before .before .before .before .before .before .before .before .before .before .before .before .before .before .args .kind) (c .before .before .before .before .before .before .before .before .before .before .before .take-head .result .value) _ _ (c .before .before .before .before .before .before .before .before .before .before .before .take-head .ensures) (c .before .before .before .before .before .before .take-urban .result .«data») (ne-eqb _ _ (c .before .before .before .before .before .before .before .before .if3 .left)) (c .before .before .before .before .before .before .take-urban .ensures (c .before .before .before .before .before .before .before .before .before .before .before .take-head .result .value)))
     (c .before .before .before .end2 .ensures) _ (c .refused2 .ensures) (c .before .if6 .taken)
 
 returns-7 : tie.Need-returns-7
-returns-7 c = 
+returns-7 c =
     told-read (c .before .before .before .before .before .before .before .before .before .before .before .before .before .before .before .before .before .before .before .before .before .before .args .kind) (c .before .before .before .before .before .before .before .before .before .before .before .before .before .before .before .before .before .before .before .before .before .before .args .bytes .now) (c .before .before .before .before .before .before .before .before .before .before .before .before .before .before .before .before .words2 .last .1 .0) (headNumbers (c .before .before .before .before .before .before .before .before .before .before .before .before .before .before .take-head .result .value) ++ numbers50 (c .before .before .before .before .before .before .before .before .before .take-urban .result .«data»)) (c .before .before .before .before .before .before .before .before .before .take-urban .result .last) (c .before .before .before .before .before .before .end2 .result) (c .before .before .before .before .before .before .before .before .before .before .before .before .before .before .before .before .before .before .before .before .if1 .left) (sym (c .before .before .before .before .before .before .before .before .before .before .before .before .before .before .before .before .before .before .before .known .ensures) ∙ not-false _ (c .before .before .before .before .before .before .before .before .before .before .before .before .before .before .before .before .before .before .if2 .left)) (c .before .before .before .before .before .before .before .before .before .before .before .before .before .before .before .before .words2 .ensures)
     (taken50 _ (c .before .before .before .before .before .before .before .before .before .before .before .before .before .before .before .before .before .before .before .before .before .before .args .kind) (c .before .before .before .before .before .before .before .before .before .before .before .before .before .before .take-head .result .value) _ _ (c .before .before .before .before .before .before .before .before .before .before .before .before .before .before .take-head .ensures) (c .before .before .before .before .before .before .before .before .before .take-urban .result .«data») (ne-eqb _ _ (c .before .before .before .before .before .before .before .before .before .before .before .if3 .left)) (c .before .before .before .before .before .before .before .before .before .take-urban .ensures (c .before .before .before .before .before .before .before .before .before .before .before .before .before .before .take-head .result .value)))
     (c .before .before .before .before .before .before .end2 .ensures)
     _ (c .with-data3 .ensures ∙ sym (made50 (c .before .before .before .before .before .before .before .before .before .before .before .before .before .before .before .before .before .before .before .before .before .before .args .kind) (c .before .before .before .before .before .before .before .before .before .before .before .before .before .before .take-head .result .value) (c .before .before .before .before .before .before .before .before .before .take-urban .result .«data») (ne-eqb _ _ (c .before .before .before .before .before .before .before .before .before .before .before .if3 .left)) (sym (c .before .before .before .follow2 .ensures) ∙ c .before .before .if7 .taken))) (c .before .before .before .before .if6 .left)
 
 returns-8 : tie.Need-returns-8
-returns-8 c = 
+returns-8 c =
     told-read (c .before .before .before .before .before .before .before .before .before .before .before .before .before .before .before .before .before .before .before .before .before .args .kind) (c .before .before .before .before .before .before .before .before .before .before .before .before .before .before .before .before .before .before .before .before .before .args .bytes .now) (c .before .before .before .before .before .before .before .before .before .before .before .before .before .before .before .words2 .last .1 .0) (headNumbers (c .before .before .before .before .before .before .before .before .before .before .before .before .before .take-head .result .value) ++ numbers50 (c .before .before .before .before .before .before .before .before .take-urban .result .«data»)) (c .before .before .before .before .before .before .before .before .take-urban .result .last) (c .before .before .before .before .before .end2 .result) (c .before .before .before .before .before .before .before .before .before .before .before .before .before .before .before .before .before .before .before .if1 .left) (sym (c .before .before .before .before .before .before .before .before .before .before .before .before .before .before .before .before .before .before .known .ensures) ∙ not-false _ (c .before .before .before .before .before .before .before .before .before .before .before .before .before .before .before .before .before .if2 .left)) (c .before .before .before .before .before .before .before .before .before .before .before .before .before .before .before .words2 .ensures)
     (taken50 _ (c .before .before .before .before .before .before .before .before .before .before .before .before .before .before .before .before .before .before .before .before .before .args .kind) (c .before .before .before .before .before .before .before .before .before .before .before .before .before .take-head .result .value) _ _ (c .before .before .before .before .before .before .before .before .before .before .before .before .before .take-head .ensures) (c .before .before .before .before .before .before .before .before .take-urban .result .«data») (ne-eqb _ _ (c .before .before .before .before .before .before .before .before .before .before .if3 .left)) (c .before .before .before .before .before .before .before .before .take-urban .ensures (c .before .before .before .before .before .before .before .before .before .before .before .before .before .take-head .result .value)))
     (c .before .before .before .before .before .end2 .ensures)

@@ -1,4 +1,4 @@
-use mathlib.Core.Path.{sym, _∙_}
+use mathlib.Core.Path.{_∙_}
 use Rattle.selection.proofs.Choosing.{is-better, not-better, not-in-question}
 use borrow.Author.Needs.{needs}
 use Rattle.selection.proofs.better.Statement.{statement}

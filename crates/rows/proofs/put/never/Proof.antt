@@ -1,4 +1,4 @@
-use mathlib.Core.Path.{_≡_, refl, sym, ap, _∙_}
+use mathlib.Core.Path.{refl}
 use mathlib.Core.Bool.{false}
 use Rattle.rows.proofs.Stepping.{on, off}
 use Rattle.rows.proofs.Giving.{gave-refused, gave-absent, gave-past}

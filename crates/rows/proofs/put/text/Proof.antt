@@ -1,6 +1,5 @@
-use mathlib.Core.Path.{_≡_, refl, sym, ap, _∙_}
+use mathlib.Core.Path.{refl, sym}
 use lib.ListN.{length, length-replicate}
-use native.Mathlib.Omega.{arith}
 use Rattle.rows.proofs.Stepping.{on, off, map-none}
 use Rattle.rows.proofs.Giving.{gave-refused, gave-absent, gave-text, lays-all}
 use borrow.Author.Needs.{needs}
@@ -11,7 +10,7 @@ returns : tie.Need-returns
 returns c = gave-refused _ _ _ _ _ _ _ (c .before .before .before .before .pre .0) (c .if1 .taken)
 
 returns-2 : tie.Need-returns-2
-returns-2 c = 
+returns-2 c =
     let a = c .before .before .before .before .before .before .before .before .args in
     let wide = rw (← map-none (length (a .letters .now)) 5) at (c .before .any-wide .ensures) in
     gave-absent _ _ _ _ _ _ _ _ _ (c .before .before .before .before .before .before .before .before .pre .0) (sym (length-replicate _ 5)) (c .before .before .before .before .if1 .left) (off _ (c .before .before .before .before .before .before .before .before .args .when) (c .before .before .before .there .ensures) (c .before .before .if2 .taken)) wide (c .absent .ensures)

@@ -1,5 +1,5 @@
 use Prim.Native.Nat.{_%_}
-use mathlib.Core.Path.{_≡_, refl, sym, ap, _∙_}
+use mathlib.Core.Path.{_≡_, refl}
 use mathlib.Core.Logic.{⊎-elim}
 use lib.Dec.{eqb}
 use native.Mathlib.Omega.{arith}
@@ -21,7 +21,7 @@ returns-3 : tie.Need-returns-3
 returns-3 c = rw (c .without-numbers3 .ensures) (took-past _ _ _ _ _ _ _ _ (c .before .before .before .before .before .before .before .before .before .pre) (c .before .before .before .before .before .before .if1 .left) (rw (on _ (c .before .before .before .before .before .before .before .before .before .args .when) (c .before .before .before .before .before .there .ensures) (c .before .before .before .before .if2 .left)) (omega arith)) (c .before .past .ensures))
 
 returns-4 : tie.Need-returns-4
-returns-4 c = 
+returns-4 c =
     let n : c .before .if4 .broken ≡ pick (eqb (c .before .before .number .result % 16) 13) 4 0 =
     ⊎-elim (λ w. rw (w .1, eq-eqb _ _ (w .0 .taken))) (λ w. rw (w .1, ne-eqb _ _ (w .0 .left))) (c .before .if4 .came) in
     took-tariff _ _ _ _ _ _ _ (c .before .before .before .before .before .before .before .before .before .before .pre) (on _ (c .before .before .before .before .before .before .before .before .before .before .args .when) (c .before .before .before .before .before .before .there .ensures) (c .before .before .before .before .before .if2 .left)) (c .before .before .number .ensures) n (c .admit .ensures)
