@@ -16,6 +16,7 @@ use Rattle.rows.proofs.Changing.{judged-read, passed}
 use Rattle.rows.proofs.Refusing.{read-refused}
 use Rattle.records.specs.Answer.{refusal, answered}
 use Rattle.records.proofs.Coming.{ComesTo, fine, faulty}
+use Rattle.lists.proofs.Judging.{take-map}
 use Rattle.lists.specs.Listing.{column, obeying, readList}
 use Rattle.lists.specs.Rules.{keeps, faultAfter}
 use Rattle.lists.specs.List.{listOf, gotList, noList, listFault, outside, listRead}
@@ -126,11 +127,6 @@ count-most n bs {vals} h =
     most : (t : Bool) → ltb n (getD (take 1 vals) 0 0) ≡ t → _≡_ {A = ℕ} (pick t 4 0) 0 → getD (take 1 vals) 0 0 ≤ n
     most true e z = absurd (omega arith)
     most false e z = ltb-false _ _ e
-
-pub take-map : {A B : Type 0} (f : A → B) (k : ℕ) (l : List A) → take k (map f l) ≡ map f (take k l)
-take-map f zero l = refl
-take-map f (suc k) [] = refl
-take-map f (suc k) (a ∷ l) = ap (λ (x : List _). f a ∷ x) (take-map f k l)
 
 neither : (a b : Bool) → a || b ≡ false → (a ≡ false) × (b ≡ false)
 neither true b h = absurd (true≢false h)

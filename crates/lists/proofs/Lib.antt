@@ -1,8 +1,9 @@
-pub mod Ruling
+pub mod Judging
 pub mod Listing
 pub mod Entries
 pub mod Relisting
 pub mod Kept
 pub mod Recoding
 pub mod Coming
+pub mod Lines
 pub mod Sounding

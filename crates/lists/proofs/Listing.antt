@@ -18,6 +18,7 @@ use Rattle.rows.specs.declared.Rule.{Rule}
 use Rattle.rows.specs.declared.When.the-variants.{Bit, Above}
 use Rattle.rows.proofs.Running.{takes-read, puts-write}
 use Rattle.records.specs.Answer.{refusal, accepted, denied, written, answered}
+use Rattle.records.proofs.Answering.{eight-words}
 use Rattle.lists.specs.Listing.{obeying, readList, writeList}
 use Rattle.lists.specs.inner.Steps.{obeyed}
 use Rattle.records.specs.declared.Refusal.{Refusal}
@@ -104,7 +105,7 @@ module _ {A : Type 0} (good : List ℕ → A) (bad : Refusal → A) (fault : Lis
   module _ (words all : List ℕ) (d e f : Cursor)
       (whole : length bytes ≡ 29)
       (inside : outside ≡ false)
-      (cuts : words ≡ cut 32 63 (length words) (spread 8 bytes))
+      (cuts : words ≡ cut 32 64 8 (spread 8 bytes))
       (taken : Taken words 232 rows [] start all d)
       (ended : Ended words 232 d e)
       (ruled : f ≡ obeyed e (fault all)) where
@@ -115,7 +116,7 @@ module _ {A : Type 0} (good : List ℕ → A) (bad : Refusal → A) (fault : Lis
         rw (eq-eqb _ _ whole, inside, ruled)
         (answered-said (read rows (spread 8 bytes))
         ∙ ap (λ (o : Outcome (List ℕ)). answered good bad (andThen o (λ vals end. obeying (fault vals) vals end)))
-        (takes-read words 232 (spread 8 bytes) long cuts rows all d e (taken .takes) ended)
+        (takes-read words 232 (spread 8 bytes) long (rw (← eight-words bytes words cuts) cuts) rows all d e (taken .takes) ended)
         ∙ ap (answered good bad) (obeys-tells fault e all))
 
     pub list-read : f .why ≡ 0 → good all ≡ readList good bad fault outside rows bytes

@@ -26,7 +26,8 @@ use Rattle.lists.specs.declared.list.Entry.{Entry}
 use Rattle.lists.specs.declared.list.ContractList.{ContractList}
 use Rattle.lists.proofs.Entries.{length-counted, counted-listing}
 use Rattle.lists.proofs.Recoding.{slots-list}
-use Rattle.lists.proofs.Kept.{Full, Apart, full-at, fault-none, take-map, list-was-read, list-kept}
+use Rattle.lists.proofs.Judging.{take-map}
+use Rattle.lists.proofs.Kept.{Full, Apart, full-at, fault-none, list-was-read, list-kept}
 
 -- The numbers of an entry fit their boxes and break no rule, as entry k of so many.
 pub record EntrySound (count k : ℕ) (e : Entry) : Type 0 where

@@ -1,12 +1,12 @@
 // Contract list (BestContracts).
 ghost use mathlib.Core.Path.{_≡_};
 ghost use mathlib.Core.List.{[]};
-ghost use Prim.Native.Nat.{_+_, _*_};
+ghost use Prim.Native.Nat.{_+_, _*_, _≤_};
 ghost use lib.Dec.{eqb};
 ghost use lib.ListN.{length};
 ghost use Rattle.rows.specs.Row.{pick};
 ghost use Rattle.rows.specs.inner.Step.{Ready, Drafted};
-ghost use Rattle.rows.specs.inner.Line.{start, Taken, Puts};
+ghost use Rattle.rows.specs.inner.Line.{start, Puts};
 ghost use Rattle.rows.specs.table.BestContracts.{entry, contractList};
 ghost use Rattle.lists.specs.inner.Steps.{EntryTook, EntryGave};
 ghost use Rattle.lists.specs.List.{entryNumbers, numbersOf, outside, listFault, listRead, listWritten, noList};
@@ -14,6 +14,7 @@ ghost use Rattle.lists.specs.Entries.{counted, listing, withPriority, ap
 ghost use Rattle.records.specs.Answer.{refusal, Written};
 use crate::rules;
 use crate::rules::COUNT_BITS;
+use crate::rules::Judged;
 use records::BITS;
 use records::BYTES;
 use records::Refusal;
@@ -191,12 +192,6 @@ struct EntryTaken {
     last: Cursor,
 }
 
-// The list's numbers, and the cursor behind the last entry.
-struct ListTaken {
-    list: ContractList,
-    last: Cursor,
-}
-
 // Whether n is no number of contract records that a card may have.
 fn outside(n: u32) -> bool
     ensures { λ r. ⌜ r ≡ outside n ⌝ }
@@ -216,12 +211,31 @@ pub fn read(bytes: &[u8], n: u32) -> ListRead
     }
     let mut words = [0u64; 8];
     bits::words(bytes, &mut words);
-    let taken = take_list(&words, n);
-    let list = taken.list;
-    let end = take::end(&words, BITS, taken.last);
-    let last = rules::obeyed(end, at_fault(list, n));
-    if last.why != 0 {
-        return refused(last.why, last.at);
+    let head = take::at_most(&words, BITS, Cursor::START, When::Always, COUNT_BITS, n);
+    if head.why != 0 {
+        return refused(head.why, head.at);
+    }
+    let count = head.number;
+    let mut list = ContractList::NONE;
+    list.count = count;
+    let mut judged = Judged::start(n);
+    let mut last = head;
+    let mut k = 0;
+    while k < count {
+        let taken = take_entry(&words, last, count, k);
+        let entry = taken.entry;
+        last = taken.last;
+        if last.why != 0 {
+            return refused(last.why, last.at);
+        }
+        list.entries[k as usize] = entry;
+        k += 1;
+        judged = judged.with(k, entry.bitmap, entry.pointer, Entry::FULL);
+    }
+    let end = take::end(&words, BITS, last);
+    let end = rules::obeyed(end, judged.fault);
+    if end.why != 0 {
+        return refused(end.why, end.at);
     }
     ListRead {
         refusal: Refusal::NONE,
@@ -273,64 +287,20 @@ fn take_entry(words: &[u64], c: Cursor, count: u32, k: u32) -> EntryTaken
     }
 }
 
-fn take_list(words: &[u64], n: u32) -> ListTaken
-    requires { ⌜ length (now words) ≡ 8 ⌝ }
-    ensures { λ r. ⌜ Taken (now (words .entry)) 232 (contractList n) [] start (numbersOf (r .list)) (r .last) ⌝ }
-{
-    let head = take::at_most(words, BITS, Cursor::START, When::Always, COUNT_BITS, n);
-    let count = head.number;
-    let first = take_entry(words, head, count, 0);
-    let second = take_entry(words, first.last, count, 1);
-    let third = take_entry(words, second.last, count, 2);
-    let fourth = take_entry(words, third.last, count, 3);
-    let fifth = take_entry(words, fourth.last, count, 4);
-    let sixth = take_entry(words, fifth.last, count, 5);
-    let seventh = take_entry(words, sixth.last, count, 6);
-    let eighth = take_entry(words, seventh.last, count, 7);
-    let e0 = first.entry;
-    let e1 = second.entry;
-    let e2 = third.entry;
-    let e3 = fourth.entry;
-    let e4 = fifth.entry;
-    let e5 = sixth.entry;
-    let e6 = seventh.entry;
-    let e7 = eighth.entry;
-    let last = eighth.last;
-    ListTaken {
-        list: ContractList {
-            count,
-            entries: [e0, e1, e2, e3, e4, e5, e6, e7],
-        },
-        last,
-    }
-}
-
 // The number of the first entry that breaks the list rule, or 0.
 fn at_fault(list: ContractList, n: u32) -> u32
+    requires { ⌜ n ≤ 8 ⌝ }
     ensures { λ r. ⌜ r ≡ listFault n (numbersOf list) ⌝ }
 {
-    let es = list.entries;
-    let bitmaps = [
-        es[0].bitmap,
-        es[1].bitmap,
-        es[2].bitmap,
-        es[3].bitmap,
-        es[4].bitmap,
-        es[5].bitmap,
-        es[6].bitmap,
-        es[7].bitmap,
-    ];
-    let pointers = [
-        es[0].pointer,
-        es[1].pointer,
-        es[2].pointer,
-        es[3].pointer,
-        es[4].pointer,
-        es[5].pointer,
-        es[6].pointer,
-        es[7].pointer,
-    ];
-    rules::first_at_fault(&bitmaps, &pointers, list.count, Entry::FULL, n)
+    let n_entries = list.len();
+    let mut judged = Judged::start(n);
+    let mut k = 0;
+    while k < n_entries {
+        let entry = list.entries[k];
+        k += 1;
+        judged = judged.with(k as u32, entry.bitmap, entry.pointer, Entry::FULL);
+    }
+    judged.fault
 }
 
 // Writes a contract list to a lent record, all of it; refused, the record is as it was.
@@ -410,12 +380,11 @@ fn put_list(draft: &mut [u64], n: u32, list: ContractList) -> Cursor
         n,
         count,
     );
-    let first = put_entry(draft, head, count, 0, es[0]);
-    let second = put_entry(draft, first, count, 1, es[1]);
-    let third = put_entry(draft, second, count, 2, es[2]);
-    let fourth = put_entry(draft, third, count, 3, es[3]);
-    let fifth = put_entry(draft, fourth, count, 4, es[4]);
-    let sixth = put_entry(draft, fifth, count, 5, es[5]);
-    let seventh = put_entry(draft, sixth, count, 6, es[6]);
-    put_entry(draft, seventh, count, 7, es[7])
+    let mut c = head;
+    let mut k = 0;
+    while k < 8 {
+        c = put_entry(draft, c, count, k as u32, es[k]);
+        k += 1;
+    }
+    c
 }

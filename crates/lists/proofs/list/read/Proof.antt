@@ -1,55 +1,112 @@
-use mathlib.Core.Path.{_≡_, sym, ap, _∙_}
-use lib.ListN.{length}
-use Rattle.bits.specs.Bits.{cut, spread}
-use Rattle.lists.specs.List.{listFault, gotList}
-use Rattle.lists.proofs.Listing.{length-of-map, list-read, list-refused, list-short, list-outside}
-use Rattle.lists.proofs.list.Laws.{list-of-numbers}
+use Prim.Native.Nat.{_-_}
+use mathlib.Core.Path.{_∙_}
+use native.Mathlib.Omega.{arith}
+use Rattle.rows.specs.inner.Line.{taken, _▸_}
+use Rattle.records.proofs.Answering.{eight-words}
+use Rattle.lists.specs.List.{listFault}
+use Rattle.lists.proofs.Listing.{list-short, list-outside}
+use Rattle.lists.proofs.Lines.{Sofar, sofar-start, sofar-more, sofar-refused, sofar-read, sofar-denied, line-refused, limit-few}
 use borrow.Author.Needs.{needs}
 use Rattle.lists.proofs.list.read.Statement.{statement}
 use Rattle.lists.proofs.list.read.Tie as tie
 
-eight : (c : tie.After-take-list) → length (c .take-list .result .list .entries) ≡ 8
-eight c = search (needs, length-of-map)
+abbrev Inv-loop : tie.InvT-loop
+Inv-loop bytes n words count list₀ judged₀ last₀ k₀ list judged last k = Sofar bytes n words count list judged last k
 
-returns : tie.Need-returns
+abbrev μ-loop : tie.MeasureT-loop
+μ-loop bytes n words count list₀ judged₀ last₀ k₀ list judged last k = count - k
+
+returns : tie.Need-returns Inv-loop μ-loop
 returns c = c .refused .ensures ∙ list-short _ _ (listFault (c .before .before .before .args .n)) _ _ _ (c .before .if1 .taken)
 
-returns-2 : tie.Need-returns-2
+returns-2 : tie.Need-returns-2 Inv-loop μ-loop
 returns-2 c = c .refused2 .ensures ∙ list-outside _ _ (listFault (c .before .before .before .before .before .args .n)) _ _ _ (c .before .before .before .if1 .left) (rw (c .before .before .outside .ensures) at (c .before .if2 .taken))
 
-returns-3 : tie.Need-returns-3
-returns-3 c = let bytes = c .before .before .before .before .before .before .before .before .before .before .before .before .before .before .before .before .before .args .bytes .now in
-    let words = c .before .before .before .before .before .before .before .before .before .before .before .words2 .last .1 .0 in
-    let cuts : words ≡ cut 32 63 (length words) (spread 8 bytes) = rw (c .before .before .before .before .before .before .before .before .before .before .before .words2 .kept .1 .0) (c .before .before .before .before .before .before .before .before .before .before .before .words2 .ensures) in
-    let inside = rw (c .before .before .before .before .before .before .before .before .before .before .before .before .before .before .outside .ensures) at (c .before .before .before .before .before .before .before .before .before .before .before .before .before .if2 .left) in
-    let last = rw (c .before .before .before .before .at-fault .ensures) at (c .before .before .before .obeyed .ensures) in
-    c .refused3 .ensures ∙ list-refused _ _ (listFault (c .before .before .before .before .before .before .before .before .before .before .before .before .before .before .before .before .before .args .n)) _ _ bytes words _ _ _ _ (c .before .before .before .before .before .before .before .before .before .before .before .before .before .before .before .if1 .left) inside cuts (c .before .before .before .before .before .before .before .before .take-list .ensures) (c .before .before .before .before .before .end .ensures) last (c .before .if3 .taken)
+slice-aggregate-at-most : tie.Need-slice-aggregate-at-most Inv-loop μ-loop
+slice-aggregate-at-most c = eight-words (c .before .before .before .before .before .before .before .args .bytes .now) _ (c .before .words2 .ensures)
 
-returns-4 : tie.Need-returns-4
-returns-4 c = let bytes = c .before .before .before .before .before .before .before .before .before .before .before .before .before .before .before .before .args .bytes .now in
-    let words = c .before .before .before .before .before .before .before .before .before .before .words2 .last .1 .0 in
-    let cuts : words ≡ cut 32 63 (length words) (spread 8 bytes) = rw (c .before .before .before .before .before .before .before .before .before .before .words2 .kept .1 .0) (c .before .before .before .before .before .before .before .before .before .before .words2 .ensures) in
-    let inside = rw (c .before .before .before .before .before .before .before .before .before .before .before .before .before .outside .ensures) at (c .before .before .before .before .before .before .before .before .before .before .before .before .if2 .left) in
-    let last = rw (c .before .before .before .at-fault .ensures) at (c .before .before .obeyed .ensures) in
-    ap gotList (sym (list-of-numbers (c .before .before .before .before .before .before .before .take-list .result .list) (eight (c .before .before .before .before .before .before .before)))) ∙ list-read _ _ (listFault (c .before .before .before .before .before .before .before .before .before .before .before .before .before .before .before .before .args .n)) _ _ bytes words _ _ _ _ (c .before .before .before .before .before .before .before .before .before .before .before .before .before .before .if1 .left) inside cuts (c .before .before .before .before .before .before .before .take-list .ensures) (c .before .before .before .before .end .ensures) last (c .if3 .left)
+at-most-requires : tie.Need-at-most-requires Inv-loop μ-loop
+at-most-requires c κs = let eight = eight-words (c .before .before .before .before .before .before .before .args .bytes .now) _ (c .before .words2 .ensures) in (record { within = omega arith; covered = omega (arith, eight) }, omega arith)
+
+returns-3 : tie.Need-returns-3 Inv-loop μ-loop
+returns-3 c =
+    let a = c .before .before .before .before .before .before .before .before .before .before .before .args in
+    let inside = rw (c .before .before .before .before .before .before .before .before .outside .ensures) at (c .before .before .before .before .before .before .before .if2 .left) in
+    let head = c .before .before .before .at-most .ensures in
+    c .refused3 .ensures ∙ line-refused (a .bytes .now) (a .n) _ (c .before .before .before .before .before .before .before .before .before .if1 .left) inside (c .before .before .before .before .before .words2 .ensures) 0 _ _ (omega arith) (head ▸ taken) (head .ready) (c .before .if3 .taken)
+
+start-requires : tie.Need-start-requires Inv-loop μ-loop
+start-requires c κs = limit-few _ (rw (c .before .before .before .before .before .before .before .outside .ensures) at (c .before .before .before .before .before .before .if2 .left))
+
+loop-holds : tie.Need-loop-holds Inv-loop μ-loop
+loop-holds c =
+    let a = c .before .before .before .before .before .before .before .before .before .before .before .args in
+    let inside = rw (c .before .before .before .before .before .before .before .before .outside .ensures) at (c .before .before .before .before .before .before .before .if2 .left) in
+    sofar-start (a .bytes .now) (a .n) _ _ _ (c .before .before .before .before .before .before .before .before .before .if1 .left) inside (c .before .before .before .before .before .words2 .ensures) (c .before .before .before .at-most .ensures) (c .before .if3 .left) (c .start .ensures)
+
+slice-aggregate-take-entry : tie.Need-slice-aggregate-take-entry Inv-loop μ-loop
+slice-aggregate-take-entry c = eight-words (c .before .before .before .before .before .before .before .before .before .before .before .before .before .before .args .bytes .now) _ (c .before .before .loop .inv .cuts)
+
+take-entry-requires : tie.Need-take-entry-requires Inv-loop μ-loop
+take-entry-requires c κs = c .before .before .loop .inv .ready
+
+returns-4 : tie.Need-returns-4 Inv-loop μ-loop
+returns-4 c = c .refused4 .ensures ∙ sofar-refused (c .before .before .before .before .before .before .before .before .loop .inv) _ _ (c .before .before .before .before .before .take-entry .ensures) (c .before .before .before .before .before .before .before .loop-test .taken) (c .before .if4 .taken)
+
+mul-entry : tie.Need-mul-entry Inv-loop μ-loop
+mul-entry c = omega (arith, c .before .before .before .before .before .before .before .loop .inv .few, c .before .before .before .before .before .before .loop-test .taken)
+
+element-set-from-entry : tie.Need-element-set-from-entry Inv-loop μ-loop
+element-set-from-entry c = omega (arith, c .before .before .before .before .before .before .before .loop .inv .few, c .before .before .before .before .before .before .loop-test .taken)
+
+loop-again : tie.Need-loop-again Inv-loop μ-loop
+loop-again c =
+    sofar-more (c .before .before .before .before .before .before .before .before .loop .inv) _ _ _ (c .before .before .before .before .before .take-entry .ensures) (c .before .before .before .before .before .before .before .loop-test .taken) (c .before .if4 .left) (c .with .ensures)
+
+slice-aggregate-end : tie.Need-slice-aggregate-end Inv-loop μ-loop
+slice-aggregate-end c = eight-words (c .before .before .before .before .before .before .before .before .before .before .before .before .before .before .args .bytes .now) _ (c .before .before .loop .inv .cuts)
+
+end-requires : tie.Need-end-requires Inv-loop μ-loop
+end-requires c κs = (c .before .before .loop .inv .ready, omega arith)
+
+returns-5 : tie.Need-returns-5 Inv-loop μ-loop
+returns-5 c = c .refused5 .ensures ∙ sofar-denied (c .before .before .before .before .before .before .before .loop .inv) (c .before .before .before .before .before .before .loop-test .left) _ _ (c .before .before .before .before .end .ensures) (c .before .before .before .obeyed .ensures) (c .before .if5 .taken)
+
+returns-6 : tie.Need-returns-6 Inv-loop μ-loop
+returns-6 c = sofar-read (c .before .before .before .before .before .before .loop .inv) (c .before .before .before .before .before .loop-test .left) _ _ (c .before .before .before .end .ensures) (c .before .before .obeyed .ensures) (c .if5 .left)
 
 pub read-spec : {M : Type 1} → statement M
 read-spec =
     tie.close
     (tie.spec
+    Inv-loop
+    μ-loop
     (λ c κs. search needs)
     returns
     (λ c κs. search needs)
     (λ c κs. search needs)
     returns-2
-    (λ c. search needs)
     (λ c κs. search needs)
-    (λ c. search needs)
-    (λ c κs. search needs)
-    (λ c. search needs)
-    (λ c κs. search needs)
-    (λ c κs. search needs)
-    (λ c κs. search needs)
+    slice-aggregate-at-most
+    at-most-requires
     (λ c κs. search needs)
     returns-3
-    returns-4)
+    start-requires
+    loop-holds
+    slice-aggregate-take-entry
+    take-entry-requires
+    (λ c κs. search needs)
+    returns-4
+    (λ c. search needs)
+    mul-entry
+    element-set-from-entry
+    (λ c. search needs)
+    (λ c κs. search needs)
+    (λ c. search needs)
+    loop-again
+    slice-aggregate-end
+    end-requires
+    (λ c κs. search needs)
+    (λ c κs. search needs)
+    returns-5
+    returns-6)

@@ -1,6 +1,7 @@
 use mathlib.Core.Path.{refl}
 use Rattle.rows.specs.table.BestContracts.{contractList}
 use Rattle.lists.specs.List.{listFault}
+use Rattle.lists.proofs.Lines.{limit-few}
 use Rattle.lists.proofs.Listing.{list-written, list-denied, list-unwritten, list-unwritten-outside}
 use borrow.Author.Needs.{needs}
 use Rattle.lists.proofs.list.write.Statement.{statement}
@@ -13,6 +14,9 @@ returns c = list-unwritten (listFault (c .before .before .args .n)) _ _ _ _ (c .
 returns-2 : tie.Need-returns-2
 unfolding contractList
 returns-2 c = list-unwritten-outside (listFault (c .before .before .before .before .args .n)) _ _ _ _ (c .before .before .if1 .left) (rw (c .before .outside .ensures) at (c .if2 .taken))
+
+at-fault-requires : tie.Need-at-fault-requires
+at-fault-requires c κs = limit-few _ (rw (c .before .before .before .before .outside .ensures) at (c .before .before .before .if2 .left))
 
 returns-3 : tie.Need-returns-3
 unfolding contractList
@@ -35,7 +39,7 @@ write-spec =
     returns-2
     (λ c. search needs)
     (λ c κs. search needs)
-    (λ c κs. search needs)
+    at-fault-requires
     (λ c κs. search needs)
     (λ c. search needs)
     (λ c κs. search needs)

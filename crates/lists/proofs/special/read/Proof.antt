@@ -1,7 +1,6 @@
 use mathlib.Core.Path.{_≡_, sym, ap, _∙_}
 use lib.ListN.{length}
 use borrow.Author.Tests.{lt-ltb, le-ltb}
-use Rattle.bits.specs.Bits.{cut, spread}
 use Rattle.lists.specs.Special.{specialFault, gotSpecial}
 use Rattle.lists.proofs.Listing.{length-of-map, list-read, list-refused, list-short, list-outside}
 use Rattle.lists.proofs.special.Laws.{special-of-numbers}
@@ -19,18 +18,16 @@ returns-2 : tie.Need-returns-2
 returns-2 c = c .refused2 .ensures ∙ list-outside _ _ (specialFault (c .before .before .before .before .args .s)) _ _ _ (c .before .before .if1 .left) (lt-ltb _ _ (c .before .if2 .taken))
 
 returns-3 : tie.Need-returns-3
-returns-3 c = let bytes = c .before .before .before .before .before .before .before .before .before .before .before .before .before .before .before .before .args .bytes .now in
-    let words = c .before .before .before .before .before .before .before .before .before .before .before .words2 .last .1 .0 in
-    let cuts : words ≡ cut 32 63 (length words) (spread 8 bytes) = rw (c .before .before .before .before .before .before .before .before .before .before .before .words2 .kept .1 .0) (c .before .before .before .before .before .before .before .before .before .before .before .words2 .ensures) in
+returns-3 c =
+    let a = c .before .before .before .before .before .before .before .before .before .before .before .before .before .before .before .args in
     let last = rw (c .before .before .before .before .at-fault .ensures) at (c .before .before .before .obeyed .ensures) in
-    c .refused3 .ensures ∙ list-refused _ _ (specialFault (c .before .before .before .before .before .before .before .before .before .before .before .before .before .before .before .before .args .s)) _ _ bytes words _ _ _ _ (c .before .before .before .before .before .before .before .before .before .before .before .before .before .before .if1 .left) (le-ltb _ _ (c .before .before .before .before .before .before .before .before .before .before .before .before .before .if2 .left)) cuts (c .before .before .before .before .before .before .before .before .take-list .ensures) (c .before .before .before .before .before .end .ensures) last (c .before .if3 .taken)
+    c .refused3 .ensures ∙ list-refused _ _ (specialFault (a .s)) _ _ (a .bytes .now) _ _ _ _ _ (c .before .before .before .before .before .before .before .before .before .before .before .before .before .if1 .left) (le-ltb _ _ (c .before .before .before .before .before .before .before .before .before .before .before .before .if2 .left)) (c .before .before .before .before .before .before .before .before .before .before .words2 .ensures) (c .before .before .before .before .before .before .before .before .take-list .ensures) (c .before .before .before .before .before .end .ensures) last (c .before .if3 .taken)
 
 returns-4 : tie.Need-returns-4
-returns-4 c = let bytes = c .before .before .before .before .before .before .before .before .before .before .before .before .before .before .before .args .bytes .now in
-    let words = c .before .before .before .before .before .before .before .before .before .before .words2 .last .1 .0 in
-    let cuts : words ≡ cut 32 63 (length words) (spread 8 bytes) = rw (c .before .before .before .before .before .before .before .before .before .before .words2 .kept .1 .0) (c .before .before .before .before .before .before .before .before .before .before .words2 .ensures) in
+returns-4 c =
+    let a = c .before .before .before .before .before .before .before .before .before .before .before .before .before .before .args in
     let last = rw (c .before .before .before .at-fault .ensures) at (c .before .before .obeyed .ensures) in
-    ap gotSpecial (sym (special-of-numbers (c .before .before .before .before .before .before .before .take-list .result .list) (four (c .before .before .before .before .before .before .before)))) ∙ list-read _ _ (specialFault (c .before .before .before .before .before .before .before .before .before .before .before .before .before .before .before .args .s)) _ _ bytes words _ _ _ _ (c .before .before .before .before .before .before .before .before .before .before .before .before .before .if1 .left) (le-ltb _ _ (c .before .before .before .before .before .before .before .before .before .before .before .before .if2 .left)) cuts (c .before .before .before .before .before .before .before .take-list .ensures) (c .before .before .before .before .end .ensures) last (c .if3 .left)
+    ap gotSpecial (sym (special-of-numbers (c .before .before .before .before .before .before .before .take-list .result .list) (four (c .before .before .before .before .before .before .before)))) ∙ list-read _ _ (specialFault (a .s)) _ _ (a .bytes .now) _ _ _ _ _ (c .before .before .before .before .before .before .before .before .before .before .before .before .if1 .left) (le-ltb _ _ (c .before .before .before .before .before .before .before .before .before .before .before .if2 .left)) (c .before .before .before .before .before .before .before .before .before .words2 .ensures) (c .before .before .before .before .before .before .before .take-list .ensures) (c .before .before .before .before .end .ensures) last (c .if3 .left)
 
 pub read-spec : {M : Type 1} → statement M
 read-spec =
@@ -40,7 +37,6 @@ read-spec =
     returns
     (λ c κs. search needs)
     returns-2
-    (λ c. search needs)
     (λ c κs. search needs)
     (λ c. search needs)
     (λ c κs. search needs)
