@@ -227,19 +227,16 @@ module _ {A : Type 0} (f g : A → ℕ) (full limit : ℕ) {j i : Judged} where
       rw (map-append f es (e ∷ []), map-append g es (e ∷ []))
       (turned limit (map f es) (map g es) so-far (rw (length-map es g) (omega arith)))
 
-  pub judges-next : (es : List A) (d : A) (k : ℕ) → k < length es
-      → Judges full limit (map f (take k es)) (map g (take k es)) j
-      → Turned full j (k + 1) (f (getD es k d)) (g (getD es k d)) i
-      → Judges full limit (map f (take (k + 1) es)) (map g (take (k + 1) es)) i
-  judges-next es d k inside so-far turned =
-      let long : length (take k es) ≡ k = length-take-le k es (omega arith) in
-      rw (add-one k, take-suc es k d inside) (judges-more (take k es) (getD es k d) (k + 1) (omega arith) so-far turned)
-
--- As many as are counted are those that are counted.
-pub take-counted : {A : Type 0} (n : ℕ) (l : List A) → take (length (take n l)) l ≡ take n l
-take-counted zero l = refl
-take-counted (suc n) [] = refl
-take-counted (suc n) (a ∷ l) = ap (λ (x : List _). a ∷ x) (take-counted n l)
+-- The same of two columns of numbers.
+pub judges-turn : (bitmaps pointers : List ℕ) (full limit k : ℕ) {j i : Judged} → length bitmaps ≡ length pointers → k < length bitmaps
+    → Judges full limit (take k bitmaps) (take k pointers) j
+    → Turned full j (k + 1) (getD bitmaps k 0) (getD pointers k 0) i
+    → Judges full limit (take (k + 1) bitmaps) (take (k + 1) pointers) i
+judges-turn bitmaps pointers full limit k same inside so-far turned =
+    let within : k < length pointers = omega arith in
+    let long : length (take k pointers) ≡ k = length-take-le k pointers (omega arith) in
+    rw (add-one k, take-suc bitmaps k 0 inside, take-suc pointers k 0 within)
+    (turned limit (take k bitmaps) (take k pointers) so-far (omega arith))
 
 pub take-map : {A B : Type 0} (f : A → B) (k : ℕ) (l : List A) → take k (map f l) ≡ map f (take k l)
 take-map f zero l = refl

@@ -292,15 +292,28 @@ fn at_fault(list: ContractList, n: u32) -> u32
     requires { ⌜ n ≤ 8 ⌝ }
     ensures { λ r. ⌜ r ≡ listFault n (numbersOf list) ⌝ }
 {
-    let n_entries = list.len();
-    let mut judged = Judged::start(n);
-    let mut k = 0;
-    while k < n_entries {
-        let entry = list.entries[k];
-        k += 1;
-        judged = judged.with(k as u32, entry.bitmap, entry.pointer, Entry::FULL);
-    }
-    judged.fault
+    let es = list.entries;
+    let bitmaps = [
+        es[0].bitmap,
+        es[1].bitmap,
+        es[2].bitmap,
+        es[3].bitmap,
+        es[4].bitmap,
+        es[5].bitmap,
+        es[6].bitmap,
+        es[7].bitmap,
+    ];
+    let pointers = [
+        es[0].pointer,
+        es[1].pointer,
+        es[2].pointer,
+        es[3].pointer,
+        es[4].pointer,
+        es[5].pointer,
+        es[6].pointer,
+        es[7].pointer,
+    ];
+    rules::first_at_fault(&bitmaps, &pointers, list.count, Entry::FULL, n)
 }
 
 // Writes a contract list to a lent record, all of it; refused, the record is as it was.

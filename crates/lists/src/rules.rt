@@ -2,7 +2,8 @@
 ghost use mathlib.Core.Path.{_≡_};
 ghost use mathlib.Core.List.{List, [], _∷_, _++_};
 ghost use Prim.Native.Nat.{ℕ, suc, _≤_};
-ghost use lib.ListN.{length};
+ghost use lib.ListN.{length, take};
+ghost use Rattle.lists.specs.Rules.{firstAtFault};
 ghost use Rattle.lists.specs.inner.Steps.{obeyed};
 ghost use Rattle.lists.specs.inner.Judging.{Judges};
 use rows::Cursor;
@@ -48,6 +49,24 @@ impl Judged {
             fault: k,
         }
     }
+}
+
+// The number, from 1, of the first of the counted entries that does not keep the rule, or 0.
+pub fn first_at_fault(bitmaps: &[u32], pointers: &[u32], count: u32, full: u32, limit: u32) -> u32
+    requires { ⌜ (length (now bitmaps) ≡ length (now pointers)) × (limit ≤ 8) ⌝ }
+    ensures { λ r. ⌜ r ≡ firstAtFault full limit (take count (now (bitmaps .entry))) (take count (now (pointers .entry))) ⌝ }
+{
+    let n = count as usize;
+    let mut judged = Judged::start(limit);
+    let mut k = 0;
+    while k < bitmaps.len() {
+        if k == n {
+            return judged.fault;
+        }
+        judged = judged.with(k as u32 + 1, bitmaps[k], pointers[k], full);
+        k += 1;
+    }
+    judged.fault
 }
 
 // The cursor after the rule: 6 at the entry at fault, where nothing else was refused.

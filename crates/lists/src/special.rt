@@ -2,7 +2,7 @@
 ghost use mathlib.Core.Path.{_≡_};
 ghost use mathlib.Core.List.{[]};
 ghost use Prim.Native.Nat.{_+_, _*_, _≤_};
-ghost use lib.ListN.{length, take};
+ghost use lib.ListN.{length};
 ghost use Rattle.rows.specs.inner.Step.{Ready, Drafted};
 ghost use Rattle.rows.specs.inner.Line.{start, Taken, Puts};
 ghost use Rattle.rows.specs.table.Special.{entry, specialList};
@@ -11,7 +11,6 @@ ghost use Rattle.lists.specs.inner.Steps.{EntryTook, EntryGave};
 ghost use Rattle.lists.specs.Special.{entryNumbers, numbersOf, specialFault, specialRead, specialWritten, noSpecial};
 use crate::rules;
 use crate::rules::COUNT_BITS;
-use crate::rules::Judged;
 use records::BITS;
 use records::BYTES;
 use records::Refusal;
@@ -60,16 +59,6 @@ impl SpecialList {
         count: 0,
         entries: [SpecialEntry::NONE; 4],
     };
-
-    // The number of counted entries.
-    fn len(self) -> usize
-        ensures { λ r. ⌜ r ≡ length (take (self .count) (self .entries)) ⌝ }
-    {
-        if self.count < SpecialList::MOST {
-            return self.count as usize;
-        }
-        4
-    }
 }
 
 // An entry's numbers, and the cursor behind it.
@@ -167,18 +156,13 @@ fn take_list(words: &[u64]) -> ListTaken
 
 // The number of the first entry that breaks the list rule, or 0.
 fn at_fault(list: SpecialList, s: u32) -> u32
-    requires { ⌜ s ≤ 4 ⌝ }
+    requires { ⌜ s ≤ 8 ⌝ }
     ensures { λ r. ⌜ r ≡ specialFault s (numbersOf list) ⌝ }
 {
-    let n_entries = list.len();
-    let mut judged = Judged::start(s);
-    let mut k = 0;
-    while k < n_entries {
-        let entry = list.entries[k];
-        k += 1;
-        judged = judged.with(k as u32, entry.bitmap, entry.pointer, SpecialEntry::FULL);
-    }
-    judged.fault
+    let es = list.entries;
+    let bitmaps = [es[0].bitmap, es[1].bitmap, es[2].bitmap, es[3].bitmap];
+    let pointers = [es[0].pointer, es[1].pointer, es[2].pointer, es[3].pointer];
+    rules::first_at_fault(&bitmaps, &pointers, list.count, SpecialEntry::FULL, s)
 }
 
 // Writes a special event list to a lent record, all of it; refused, the record is as it was.

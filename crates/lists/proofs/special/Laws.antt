@@ -1,20 +1,17 @@
 -- The special event list: what was read, written onto any record, is the same bytes; what was written, read again, is the same value.
 use Prim.Native.Nat.{ℕ, _^_, _<_}
-use mathlib.Core.List.{List, [], _∷_, map}
-use mathlib.Core.Path.{_≡_, refl, sym, ap, ap₂, _∙_}
-use lib.ListN.{length, getD, take}
+use mathlib.Core.List.{List, [], _∷_}
+use mathlib.Core.Path.{_≡_, refl, ap}
+use lib.ListN.{length, getD}
 use lib.Dec.{ltb}
 use Rattle.rows.specs.table.Special.{specialList}
 use Rattle.records.specs.Answer.{accepted}
-use Rattle.lists.specs.Rules.{firstAtFault}
-use Rattle.lists.specs.Listing.{column}
 use Rattle.lists.specs.Special.{entryOf, numbersOf, specialOf, gotSpecial, noSpecial, specialFault, specialRead, specialWritten}
 use Rattle.lists.specs.declared.special.SpecialEntry.{SpecialEntry}
 use Rattle.lists.specs.declared.special.SpecialList.{SpecialList}
 use Rattle.lists.specs.declared.special.SpecialRead.{SpecialRead}
 use Rattle.records.proofs.Inverse.{from-all, named-all}
 use Rattle.records.proofs.Coming.{ComesTo, unwritten, comes-within}
-use Rattle.lists.proofs.Judging.{take-map}
 use Rattle.lists.proofs.Relisting.{listing-read-write, listing-write-read}
 use Rattle.lists.proofs.Coming.{listing-comes, listing-write-comes}
 
@@ -22,23 +19,6 @@ use Rattle.lists.proofs.Coming.{listing-comes, listing-write-comes}
 pub special-of-numbers : (l : SpecialList) → length (l .entries) ≡ 4 → specialOf (numbersOf l) ≡ l
 special-of-numbers l four =
     ap (λ (es : List SpecialEntry). record { count = l .count; entries = es }) (named-all (entryOf [] 0) 4 (l .entries) four)
-
--- The bitmaps and pointers of some entries, and the first of a list's entries at fault.
-abbrev pub bitmaps : List SpecialEntry → List ℕ
-bitmaps es = map (λ (e : SpecialEntry). e .bitmap) es
-
-abbrev pub pointers : List SpecialEntry → List ℕ
-pointers es = map (λ (e : SpecialEntry). e .pointer) es
-
-pub fault-special : (s : ℕ) (l : SpecialList) → length (l .entries) ≡ 4
-    → firstAtFault 7 s (bitmaps (take (l .count) (l .entries))) (pointers (take (l .count) (l .entries))) ≡ specialFault s (numbersOf l)
-fault-special s l four =
-    let all = named-all (entryOf [] 0) 4 (l .entries) four in
-    let first : take (l .count) (column 4 5 1 (numbersOf l)) ≡ bitmaps (take (l .count) (l .entries)) =
-    ap (λ (es : List SpecialEntry). take (l .count) (bitmaps es)) all ∙ take-map _ (l .count) (l .entries) in
-    let last : take (l .count) (column 4 5 5 (numbersOf l)) ≡ pointers (take (l .count) (l .entries)) =
-    ap (λ (es : List SpecialEntry). take (l .count) (pointers es)) all ∙ take-map _ (l .count) (l .entries) in
-    ap₂ (firstAtFault 7 s) (sym first) (sym last)
 
 same : (a b : SpecialList) → gotSpecial a ≡ gotSpecial b → a ≡ b
 same a b h = ap (λ (r : SpecialRead). r .list) h
