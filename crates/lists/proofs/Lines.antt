@@ -1,19 +1,21 @@
 -- The loops of the contract list's reader and writer: an entry more of the table's line, and the line of the whole table.
-use Prim.Native.Nat.{ℕ, zero, suc, _+_, _-_, _*_, _≤_, _<_}
+use Prim.Native.Nat.{ℕ, zero, suc, _+_, _-_, _*_, _/_, _%_, _≤_, _<_}
 use mathlib.Core.List.{List, [], _∷_, _++_, map, append-nil, append-assoc}
-use mathlib.Core.Bool.{Bool, true, false, _||_}
+use mathlib.Core.Bool.{Bool, true, false, _&&_, _||_}
 use mathlib.Core.Path.{_≡_, refl, sym, ap, _∙_}
 use native.Mathlib.Omega.{arith}
 use native.Mathlib.Numerals.{add-one}
-use lib.Dec.{eqb, ltb}
+use lib.Dec.{eqb, ltb, leb}
 use lib.ListN.{length, getD, set, take, drop, replicate, length-append, length-set, take-append-drop, List·getD-append}
 use lib.Seq.{length-take-le, take-all, split-at, take-suc, take-suc-set, drop-set-lt, drop-drop, drop-at}
-use borrow.Author.Tests.{eq-eqb, ne-eqb, le-ltb, ltb-false}
+use lib.Pow as pow
+use borrow.Author.Tests.{eq-eqb, ne-eqb, le-ltb, ltb-false, eqb-true, leb-true}
 use Rattle.bits.specs.Bits.{number, cut, spread}
+use Rattle.bits.specs.inner.Words.{numberAt}
 use Rattle.bits.proofs.Cutting.{length-spread}
 use Rattle.rows.specs.Row.{Row, always, boxMost, pick, holds}
 use Rattle.rows.specs.Walk.{done, refused, andThen, field, exceeds}
-use Rattle.rows.specs.inner.Step.{said, resume, Ready, Took, Drafted, Ended}
+use Rattle.rows.specs.inner.Step.{admitted, said, resume, Ready, Took, Drafted, Ended}
 use Rattle.rows.specs.inner.Line.{start, Takes, taken, _▸_, Taken, Puts}
 use Rattle.rows.specs.table.BestContracts.{entry, contractList}
 use Rattle.rows.specs.declared.Cursor.{Cursor}
@@ -21,13 +23,13 @@ use Rattle.rows.specs.declared.When.{When}
 use Rattle.rows.specs.declared.When.the-variants.{Always, Bit, Above}
 use Rattle.rows.specs.declared.Rule.{Rule}
 use Rattle.rows.specs.declared.Rule.the-variants.{Any, Most, Tariff}
-use Rattle.rows.proofs.Taking.{took-refused, took-absent, ended-refused}
+use Rattle.rows.proofs.Taking.{took-refused, took-absent, took-box-held, took-tariff-held, held-part, ended-refused}
 use Rattle.rows.proofs.Running.{takes-append, puts-append}
 use Rattle.records.specs.Answer.{refusal}
 use Rattle.records.proofs.Inverse.{named-all}
 use Rattle.records.proofs.Answering.{eight-words}
 use Rattle.lists.specs.List.{entryNumbers, entryOf, numbersOf, listOf, outside, listFault, gotList, noList, listRead}
-use Rattle.lists.specs.inner.Steps.{obeyed, EntryTook, EntryGave}
+use Rattle.lists.specs.inner.Steps.{obeyed, EntryTook, RestTook, EntryGave}
 use Rattle.lists.specs.inner.Judging.{Judges}
 use Rattle.lists.specs.declared.list.Entry.{Entry}
 use Rattle.lists.specs.declared.list.ContractList.{ContractList}
@@ -140,6 +142,52 @@ took-most words end c d w m bs long cuts clear ok took =
     let small : v ≤ m = ltb-false m v (most .1) in
     let same : d .number ≡ v = most .0 in
     omega arith
+
+-- An entry's tariff and pointer, read as one number where both are there and in their room.
+admitted-there : (c : Cursor) (w : ℕ) → c .why ≡ 0 → c .at + w ≤ 232 → record { at = c .at + w; why = 0; number = 0 } ≡ admitted c 232 w false 0 0
+admitted-there c w clear room = rw (eq-eqb _ _ clear, le-ltb _ _ room)
+
+pub test-all : (marks why at : ℕ) → (eqb (marks / 2) 3 && eqb why 0) && leb at 211 ≡ true → (marks / 2 ≡ 3) × (why ≡ 0) × (at ≤ 211)
+test-all marks why at h = go (eqb (marks / 2) 3) refl (eqb why 0) refl h
+  where
+    go : (a : Bool) → eqb (marks / 2) 3 ≡ a → (b : Bool) → eqb why 0 ≡ b → (a && b) && leb at 211 ≡ true → (marks / 2 ≡ 3) × (why ≡ 0) × (at ≤ 211)
+    go true e true f h = (eqb-true (marks / 2) 3 e, eqb-true why 0 f, leb-true at 211 h)
+    go true e false f h = let z : _≡_ {A = ℕ} 0 1 = cc in absurd (omega arith)
+    go false e b f h = let z : _≡_ {A = ℕ} 0 1 = cc in absurd (omega arith)
+
+pub rest-took : (words : List ℕ) (c : Cursor) (marks v : ℕ)
+    → Ready words 232 c
+    → marks / 2 ≡ 3
+    → c .why ≡ 0
+    → c .at ≤ 211
+    → v ≡ numberAt words (c .at) 21
+    → (v / 32 % 16 ≡ 13 → ⊥)
+    → RestTook words c marks (v / 32 / 4096 % 16 ∷ v / 32 / 16 % 256 ∷ v / 32 % 16 ∷ []) (v % 32) (record { at = c .at + 21; why = 0; number = 0 })
+rest-took words c marks v ready full clear room reads defined =
+    let u : ℕ = v / 32 % 65536 in
+    let between : Cursor = record { at = c .at + 16; why = 0; number = 0 } in
+    let here : c .at + 0 ≡ c .at = omega arith in
+    let behind : c .at + 21 ≡ c .at + 16 + 5 = omega arith in
+    let own : v / 1 % 32 ≡ v % 32 = omega arith in
+    let key : u / 4096 ≡ v / 32 / 4096 % 16 = pow.field (v / 32) 4 12 in
+    let kind : u / 16 % 256 ≡ v / 32 / 16 % 256 = ap (λ (x : ℕ). x % 256) (pow.field (v / 32) 12 4) ∙ pow.mod-mod-pow (v / 32 / 16) 4 8 in
+    let priority : u % 16 ≡ v / 32 % 16 = pow.mod-mod-pow (v / 32) 12 4 in
+    let tariff : Took words 232 c (Bit marks 1) (4 ∷ 8 ∷ 4 ∷ []) Tariff (u / 4096 ∷ u / 16 % 256 ∷ u % 16 ∷ []) between =
+    took-tariff-held words 232 c (Bit marks 1) u 0 0 between ready (eq-eqb (marks / 2 % 2) 1 (omega arith))
+    (λ bs long cuts. rw here at (held-part words 232 c 21 v 0 16 5 bs ready (omega arith) refl reads long cuts (omega arith)))
+    (rw (ne-eqb (u % 16) 13 (λ e. defined (sym priority ∙ e))))
+    (admitted-there c 16 clear (omega arith)) in
+    record {
+      between = between;
+      tariff = rw (key, kind, priority) at tariff;
+      pointer =
+          took-box-held words 232 between (Bit marks 2) 5 Any (v % 32) 0 0 _
+          (record { within = omega arith; covered = ready .covered })
+          (eq-eqb (marks / 4 % 2) 1 (omega arith))
+          (λ bs long cuts. sym own ∙ held-part words 232 c 21 v 16 5 0 bs ready (omega arith) refl reads long cuts (omega arith))
+          refl
+          (rw behind (admitted-there between 5 refl (omega arith)));
+    }
 
 pub limit-few : (n : ℕ) → outside n ≡ false → n ≤ 8
 limit-few n = go (ltb n 1) (ltb 8 n) refl

@@ -1,6 +1,6 @@
 // Contract list (BestContracts).
 ghost use mathlib.Core.Path.{_≡_};
-ghost use mathlib.Core.List.{[]};
+ghost use mathlib.Core.List.{[], _∷_};
 ghost use Prim.Native.Nat.{_+_, _*_, _≤_};
 ghost use lib.Dec.{eqb};
 ghost use lib.ListN.{length};
@@ -8,7 +8,7 @@ ghost use Rattle.rows.specs.Row.{pick};
 ghost use Rattle.rows.specs.inner.Step.{Ready, Drafted};
 ghost use Rattle.rows.specs.inner.Line.{start, Puts};
 ghost use Rattle.rows.specs.table.BestContracts.{entry, contractList};
-ghost use Rattle.lists.specs.inner.Steps.{EntryTook, EntryGave};
+ghost use Rattle.lists.specs.inner.Steps.{EntryTook, RestTook, EntryGave};
 ghost use Rattle.lists.specs.List.{entryNumbers, numbersOf, outside, listFault, listRead, listWritten, noList};
 ghost use Rattle.lists.specs.Entries.{counted, listing, withPriority, appended, without};
 ghost use Rattle.records.specs.Answer.{refusal, Written};
@@ -74,6 +74,14 @@ impl Entry {
     pub const NETWORK_BITS: u32 = 24;
 
     pub const POINTER_BITS: u32 = 5;
+
+    // The tariff and the pointer where both are there, as one number: its width, the last bit where it can begin, and how many
+    // pointers there are in theirs.
+    const REST_BITS: u32 = ListTariff::BITS + Entry::POINTER_BITS;
+
+    const LAST_REST: u32 = BITS - Entry::REST_BITS;
+
+    const POINTERS: u32 = 1 << Entry::POINTER_BITS;
 
     // A bitmap without its last bit, the network's, where every other element is present.
     pub const FULL: u32 = 3;
@@ -192,6 +200,15 @@ struct EntryTaken {
     last: Cursor,
 }
 
+// An entry's tariff and pointer, and the cursor behind them.
+struct RestTaken {
+    key: u32,
+    kind: u32,
+    priority: u32,
+    pointer: u32,
+    last: Cursor,
+}
+
 // Whether n is no number of contract records that a card may have.
 fn outside(n: u32) -> bool
     ensures { λ r. ⌜ r ≡ outside n ⌝ }
@@ -232,8 +249,7 @@ pub fn read(bytes: &[u8], n: u32) -> ListRead
         k += 1;
         judged = judged.with(k, entry.bitmap, entry.pointer, Entry::FULL);
     }
-    let end = take::end(&words, BITS, last);
-    let end = rules::obeyed(end, judged.fault);
+    let end = rules::obeyed(take::end(&words, BITS, last), judged.fault);
     if end.why != 0 {
         return refused(end.why, end.at);
     }
@@ -265,7 +281,45 @@ fn take_entry(words: &[u64], c: Cursor, count: u32, k: u32) -> EntryTaken
         When::Bit(marks, 0),
         Entry::NETWORK_BITS,
     );
-    let tariff = take::tariff(words, BITS, network, When::Bit(marks, 1));
+    let rest = take_rest(words, network, marks);
+    let last = rest.last;
+    EntryTaken {
+        entry: Entry {
+            bitmap: marks,
+            network: network.number,
+            key: rest.key,
+            kind: rest.kind,
+            priority: rest.priority,
+            pointer: rest.pointer,
+        },
+        last,
+    }
+}
+
+// What follows an entry's network: one number where all of it is there, in its room and its limits; else a field at a time.
+fn take_rest(words: &[u64], c: Cursor, marks: u32) -> RestTaken
+    requires { ⌜ Ready (now words) 232 c ⌝ }
+    ensures { λ r. ⌜ RestTook (now (words .entry)) c marks (r .key ∷ r .kind ∷ r .priority ∷ []) (r .pointer) (r .last) ⌝ }
+{
+    if (marks / 2 == Entry::FULL) & (c.why == 0) & (c.at <= Entry::LAST_REST) {
+        let v = bits::number(words, c.at, Entry::REST_BITS);
+        let tariff = v / Entry::POINTERS;
+        let priority = tariff % ListTariff::PRIORITIES;
+        if priority != ListTariff::UNDEFINED {
+            return RestTaken {
+                key: tariff / ListTariff::KEY_UNIT % ListTariff::KEYS,
+                kind: tariff / ListTariff::PRIORITIES % ListTariff::KINDS,
+                priority,
+                pointer: v % Entry::POINTERS,
+                last: Cursor {
+                    at: c.at + Entry::REST_BITS,
+                    why: 0,
+                    number: 0,
+                },
+            };
+        }
+    }
+    let tariff = take::tariff(words, BITS, c, When::Bit(marks, 1));
     let cursor = tariff.cursor;
     let pointer = take::number(
         words,
@@ -274,15 +328,11 @@ fn take_entry(words: &[u64], c: Cursor, count: u32, k: u32) -> EntryTaken
         When::Bit(marks, 2),
         Entry::POINTER_BITS,
     );
-    EntryTaken {
-        entry: Entry {
-            bitmap: marks,
-            network: network.number,
-            key: tariff.key,
-            kind: tariff.kind,
-            priority: tariff.priority,
-            pointer: pointer.number,
-        },
+    RestTaken {
+        key: tariff.key,
+        kind: tariff.kind,
+        priority: tariff.priority,
+        pointer: pointer.number,
         last: pointer,
     }
 }

@@ -151,6 +151,51 @@ took-tariff words end c t v n d ready present reads ruled is =
     (ap (broken Tariff) gives ∙ sym ruled, λ _. gives))
     is
 
+-- The same of numbers that were read with others, as parts of one: what the bits hold is shown otherwise.
+pub held-part : (words : List ℕ) (end : ℕ) (c : Cursor) (h v o w r : ℕ) (bs : List Bool)
+    → Ready words end c
+    → h ≤ 32
+    → o + w + r ≡ h
+    → v ≡ numberAt words (c .at) h
+    → length bs ≡ end
+    → words ≡ cut 32 64 (length words) bs
+    → c .at + h ≤ end
+    → v / 2 ^ r % 2 ^ w ≡ number (take w (drop (c .at + o) bs))
+held-part words end c h v o w r bs ready narrow parts reads long cuts room =
+    rw (held words end c h v bs ready narrow reads long cuts room, ← drop-drop o (c .at) bs)
+    (sym (part-of (drop (c .at) bs) h o w r parts (rw (length-drop (c .at) bs) (omega arith))))
+
+pub took-box-held : (words : List ℕ) (end : ℕ) (c : Cursor) (t : When) (w : ℕ) (rule : Rule) (v n x : ℕ) (d : Cursor)
+    → Ready words end c
+    → holds t ≡ true
+    → ((bs : List Bool) → length bs ≡ end → words ≡ cut 32 64 (length words) bs → v ≡ number (take w (drop (c .at) bs)))
+    → n ≡ broken rule (v ∷ [])
+    → d ≡ admitted c end w false n x
+    → Took words end c t (w ∷ []) rule (v ∷ []) d
+took-box-held words end c t w rule v n x d ready present hold ruled is =
+    took words end c t (w ∷ []) rule (v ∷ []) w n x d ready
+    (rw present (omega arith))
+    (λ bs long cuts room.
+    let gives : numbers (there t (w ∷ [])) (drop (c .at) bs) ≡ v ∷ [] = rw (present, ← (hold bs long cuts)) in
+    (ap (broken rule) gives ∙ sym ruled, λ _. gives))
+    is
+
+pub took-tariff-held : (words : List ℕ) (end : ℕ) (c : Cursor) (t : When) (v n x : ℕ) (d : Cursor)
+    → Ready words end c
+    → holds t ≡ true
+    → ((bs : List Bool) → length bs ≡ end → words ≡ cut 32 64 (length words) bs → v ≡ number (take 16 (drop (c .at) bs)))
+    → n ≡ pick (eqb (v % 16) 13) 4 0
+    → d ≡ admitted c end 16 false n x
+    → Took words end c t (4 ∷ 8 ∷ 4 ∷ []) Tariff (v / 4096 ∷ v / 16 % 256 ∷ v % 16 ∷ []) d
+took-tariff-held words end c t v n x d ready present hold ruled is =
+    took words end c t (4 ∷ 8 ∷ 4 ∷ []) Tariff _ 16 n x d ready
+    (rw present)
+    (λ bs long cuts room.
+    let gives : numbers (there t (4 ∷ 8 ∷ 4 ∷ [])) (drop (c .at) bs) ≡ v / 4096 ∷ v / 16 % 256 ∷ v % 16 ∷ [] =
+    rw present (tariff-held (drop (c .at) bs) v (rw (length-drop (c .at) bs) (omega arith)) (hold bs long cuts)) in
+    (ap (broken Tariff) gives ∙ sym ruled, λ _. gives))
+    is
+
 -- One more letter.
 pub spelt-more : (words : List ℕ) (at w n : ℕ) (letters : List ℕ) (i place : ℕ)
     → i < n
