@@ -30,11 +30,13 @@ pub fn answer(unit: &[u8]) -> u64
     if what == 0 {
         return digest::of_list(list::read(lent, N));
     }
-    if what == 1 {
-        return digest::of_contract(contract::read(lent, Contract::CARNET));
-    }
-    if what == 2 {
-        return digest::of_contract(contract::read(lent, Contract::URBAN));
+    if what <= 2 {
+        let kind = if what == 1 {
+            Contract::CARNET
+        } else {
+            Contract::URBAN
+        };
+        return digest::of_contract(contract::read(lent, kind));
     }
     other_answer(what, lent)
 }
