@@ -200,6 +200,13 @@ pub fn read(bytes: &[u8], kind: u32) -> ContractRead
     let fields = take_head(&words);
     let head = fields.value;
     let last = fields.last;
+    if !follow(head.bitmap) {
+        let end = take::end(&words, BITS, last);
+        if end.why != 0 {
+            return refused(end);
+        }
+        return ContractRead::Read(with_data(head, Data::Nothing));
+    }
     if kind == Contract::CARNET {
         let carnet = take_carnet(&words, last, head.bitmap);
         let last = carnet.last;
@@ -207,11 +214,8 @@ pub fn read(bytes: &[u8], kind: u32) -> ContractRead
         if end.why != 0 {
             return refused(end);
         }
-        if follow(head.bitmap) {
-            let data = carnet.data;
-            return ContractRead::Read(with_data(head, Data::Carnet(data)));
-        }
-        return ContractRead::Read(with_data(head, Data::Nothing));
+        let data = carnet.data;
+        return ContractRead::Read(with_data(head, Data::Carnet(data)));
     }
     let urban = take_urban(&words, last, head.bitmap);
     let last = urban.last;
@@ -219,11 +223,8 @@ pub fn read(bytes: &[u8], kind: u32) -> ContractRead
     if end.why != 0 {
         return refused(end);
     }
-    if follow(head.bitmap) {
-        let data = urban.data;
-        return ContractRead::Read(with_data(head, Data::Urban(data)));
-    }
-    ContractRead::Read(with_data(head, Data::Nothing))
+    let data = urban.data;
+    ContractRead::Read(with_data(head, Data::Urban(data)))
 }
 
 fn refused(end: Cursor) -> ContractRead

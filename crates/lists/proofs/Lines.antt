@@ -23,8 +23,8 @@ use Rattle.rows.specs.declared.When.{When}
 use Rattle.rows.specs.declared.When.the-variants.{Always, Bit, Above}
 use Rattle.rows.specs.declared.Rule.{Rule}
 use Rattle.rows.specs.declared.Rule.the-variants.{Any, Most, Tariff}
-use Rattle.rows.proofs.Taking.{took-refused, took-absent, took-box-held, took-tariff-held, held-part, ended-refused}
-use Rattle.rows.proofs.Running.{takes-append, puts-append}
+use Rattle.rows.proofs.Taking.{took-skip, took-box-held, took-tariff-held, held-part, ended-refused}
+use Rattle.rows.proofs.Running.{takes-append, stopped, puts-append}
 use Rattle.records.specs.Answer.{refusal}
 use Rattle.records.proofs.Inverse.{named-all}
 use Rattle.records.proofs.Answering.{eight-words}
@@ -72,21 +72,7 @@ length-flat (e ∷ es) = let rest = length-flat es in omega arith
 numbers-flat : (l : ContractList) → length (l .entries) ≡ 8 → numbersOf l ≡ l .count ∷ flat (l .entries)
 numbers-flat l eight = ap (λ (es : List Entry). l .count ∷ flat es) (named-all (entryOf [] 0) 8 (l .entries) eight)
 
--- A field that is absent leaves any cursor where it is.
-took-skip : (words : List ℕ) (end : ℕ) (c : Cursor) (t : When) (ws : List ℕ) (rule : Rule)
-    → Ready words end c
-    → c .why ≡ 0
-    → holds t ≡ false
-    → Took words end c t ws rule (map (λ (w : ℕ). 0) ws) c
-unfolding resume
-took-skip words end c t ws rule ready clear absent =
-    let there = took-absent words end c t ws rule (map (λ (w : ℕ). 0) ws) (record { at = c .at; why = 0; number = 0 }) ready clear absent refl refl in
-    record {
-      ready = ready;
-      step = λ bs long cuts k rs i seen told. there .step bs long cuts k rs i seen told ∙ rw (eq-eqb _ _ clear);
-    }
-
--- Nor is an entry taken that is not counted.
+-- An entry that is not counted leaves a cursor where it is.
 abbrev none : Entry
 none = entryOf [] 0
 
@@ -107,15 +93,6 @@ module _ {words : List ℕ} {c : Cursor} (ready : Ready words 232 c) (clear : c 
       let front : getD (seen ++ entryNumbers none) 0 0 ≡ count = List·getD-append seen (entryNumbers none) 0 0 (omega arith) ∙ counted in
       let rest = skip-entries m (suc k) count (seen ++ entryNumbers none) (rw (length-append seen (entryNumbers none)) (omega arith)) front (omega arith) in
       takes-append (skip-entry k count seen long counted past) (rw (append-assoc seen (entryNumbers none) (flat (replicate m none))) at rest)
-
--- After a refusal the rest of a table changes nothing.
-stopped : {words : List ℕ} {end : ℕ} {c : Cursor} → Ready words end c → (c .why ≡ 0 → ⊥)
-    → (rows : List Row) (seen : List ℕ)
-    → Takes words end rows seen c seen c
-stopped ready why [] seen = taken
-stopped {words} {end} {c} ready why (r ∷ rs) seen =
-    let rest : Takes words end rs (seen ++ []) c seen c = rw (append-nil seen) (stopped ready why rs seen) in
-    took-refused words end c _ (r .boxes) (r .rule) [] ready why ▸ rest
 
 -- A number that was taken is at most its most.
 most-read : (wide past over : Bool) (v x end at e i : ℕ)

@@ -11,10 +11,11 @@ use lib.Seq.{drop-append-seam}
 use Rattle.bits.specs.Bits.{cut, zeros, leading}
 use Rattle.rows.specs.Row.{Row, pick, told}
 use Rattle.rows.specs.Walk.{Outcome, done, refused, andThen, walk, there, boxesAt, slotsOf, frameOn, frame, laidOn, slots, ending, read, write}
-use Rattle.rows.specs.inner.Step.{said, resume, Ended}
+use Rattle.rows.specs.inner.Step.{said, resume, Ready, Ended}
 use Rattle.rows.specs.inner.Line.{start, Takes, taken, _▸_, Puts, given, _◂_, tells}
 use Rattle.rows.specs.declared.Cursor.{Cursor}
 use Rattle.rows.proofs.Boxes.{length-there, laid-append}
+use Rattle.rows.proofs.Taking.{took-refused}
 
 said-then : {A B : Type 0} (o : Outcome A) (f : A → ℕ → Outcome B) → ((a : A) (end : ℕ) → said (f a end) ≡ f a end)
     → said (andThen o f) ≡ andThen (said o) f
@@ -139,3 +140,12 @@ pub puts-append : {room : ℕ} {vals : List ℕ} {rows more : List Row} {seen xs
     → Puts room vals (rows ++ more) seen xs c all zs e
 puts-append given rest = rest
 puts-append (gave ◂ others) rest = gave ◂ puts-append others rest
+
+-- After a refusal the rest of a table changes nothing.
+pub stopped : {words : List ℕ} {end : ℕ} {c : Cursor} → Ready words end c → (c .why ≡ 0 → ⊥)
+    → (rows : List Row) (seen : List ℕ)
+    → Takes words end rows seen c seen c
+stopped ready why [] seen = taken
+stopped {words} {end} {c} ready why (r ∷ rs) seen =
+    let rest : Takes words end rs (seen ++ []) c seen c = rw (append-nil seen) (stopped ready why rs seen) in
+    took-refused words end c _ (r .boxes) (r .rule) [] ready why ▸ rest

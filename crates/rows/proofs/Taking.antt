@@ -70,6 +70,20 @@ took-absent words end c t ws rule vs d ready clear absent zeros is =
     (ap (broken rule) gives ∙ broken-none rule ws, λ _. gives ∙ sym zeros))
     (is ∙ admitted-none c end (ready .within) clear)
 
+-- It leaves any cursor where it is.
+pub took-skip : (words : List ℕ) (end : ℕ) (c : Cursor) (t : When) (ws : List ℕ) (rule : Rule)
+    → Ready words end c
+    → c .why ≡ 0
+    → holds t ≡ false
+    → Took words end c t ws rule (map (λ (w : ℕ). 0) ws) c
+unfolding resume
+took-skip words end c t ws rule ready clear absent =
+    let there = took-absent words end c t ws rule (map (λ (w : ℕ). 0) ws) (record { at = c .at; why = 0; number = 0 }) ready clear absent refl refl in
+    record {
+      ready = ready;
+      step = λ bs long cuts k rs i seen told. there .step bs long cuts k rs i seen told ∙ rw (eq-eqb _ _ clear);
+    }
+
 -- A field that runs past the end.
 pub took-past : (words : List ℕ) (end : ℕ) (c : Cursor) (t : When) (ws : List ℕ) (rule : Rule) (vs : List ℕ) (d : Cursor)
     → Ready words end c
