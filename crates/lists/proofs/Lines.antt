@@ -1,6 +1,6 @@
 -- The loops of the contract list's reader and writer: an entry more of the table's line, and the line of the whole table.
 use Prim.Native.Nat.{ℕ, zero, suc, _+_, _-_, _*_, _/_, _%_, _≤_, _<_}
-use mathlib.Core.List.{List, [], _∷_, _++_, map, append-nil, append-assoc}
+use mathlib.Core.List.{List, [], _∷_, _++_, append-nil, append-assoc}
 use mathlib.Core.Bool.{Bool, true, false, _&&_, _||_}
 use mathlib.Core.Path.{_≡_, refl, sym, ap, _∙_}
 use native.Mathlib.Omega.{arith}
@@ -13,15 +13,13 @@ use borrow.Author.Tests.{eq-eqb, ne-eqb, le-ltb, ltb-false, eqb-true, leb-true}
 use Rattle.bits.specs.Bits.{number, cut, spread}
 use Rattle.bits.specs.inner.Words.{numberAt}
 use Rattle.bits.proofs.Cutting.{length-spread}
-use Rattle.rows.specs.Row.{Row, always, boxMost, pick, holds}
+use Rattle.rows.specs.Row.{Row, always, boxMost, pick}
 use Rattle.rows.specs.Walk.{done, refused, andThen, field, exceeds}
 use Rattle.rows.specs.inner.Step.{admitted, said, resume, Ready, Took, Drafted, Ended}
 use Rattle.rows.specs.inner.Line.{start, Takes, taken, _▸_, Taken, Puts}
 use Rattle.rows.specs.table.BestContracts.{entry, contractList}
 use Rattle.rows.specs.declared.Cursor.{Cursor}
-use Rattle.rows.specs.declared.When.{When}
 use Rattle.rows.specs.declared.When.the-variants.{Always, Bit, Above}
-use Rattle.rows.specs.declared.Rule.{Rule}
 use Rattle.rows.specs.declared.Rule.the-variants.{Any, Most, Tariff}
 use Rattle.rows.proofs.Taking.{took-skip, took-box-held, took-tariff-held, held-part, ended-refused}
 use Rattle.rows.proofs.Running.{takes-append, stopped, puts-append}
