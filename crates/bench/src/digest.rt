@@ -52,8 +52,7 @@ fn with_entry(d: u64, e: Entry) -> u64 {
     let d = with(d, e.key);
     let d = with(d, e.kind);
     let d = with(d, e.priority);
-    let d = with(d, e.pointer);
-    d
+    with(d, e.pointer)
 }
 
 pub fn of_contract(read: ContractRead) -> u64 {
@@ -90,8 +89,7 @@ fn with_carnet(d: u64, c: Data42) -> u64 {
     let d = with(d, c.device);
     let d = with(d, c.receipt);
     let d = with(d, c.passengers);
-    let d = with(d, c.inhibition_end);
-    d
+    with(d, c.inhibition_end)
 }
 
 fn with_urban(d: u64, c: Data50) -> u64 {
@@ -130,6 +128,5 @@ fn with_urban(d: u64, c: Data50) -> u64 {
     let d = with(d, c.start_date);
     let d = with(d, c.end_minute);
     let d = with(d, c.token);
-    let d = with(d, c.intermodal);
-    d
+    with(d, c.intermodal)
 }
