@@ -15,7 +15,7 @@ use Rattle.rows.specs.table.Contract.{head, data42, data50, contract42, contrac
 use Rattle.rows.specs.Refusing.{readNumbers, writeNumbers}
 use Rattle.rows.proofs.RoundTrip.{read-slots}
 use Rattle.rows.proofs.Refusing.{within, refuses-then, write-number, write-refused}
-use Rattle.records.specs.Answer.{Written, refusal, accepted, denied, written, answered, readRecord, writeRecord, from}
+use Rattle.records.specs.Answer.{Written, refusal, refusalAt, accepted, denied, written, answered, readRecord, writeRecord, from}
 use Rattle.contract.specs.Contract.{data42Of, data50Of, numbers42, numbers50, headNumbers, withData, isCarnet, isUrban, tableOf, follow, contractOf, known, contractRead, suit, agrees, carnet, urban, numbersOf, disagreement, contractWritten}
 use Rattle.records.specs.declared.Refusal.{Refusal}
 use Rattle.contract.specs.declared.Data.{Data}
@@ -135,7 +135,7 @@ agrees-read kind bytes c there = go (eqb (length bytes) 29) (read (tableOf kind)
     go : (l : Bool) (o : Outcome (List ℕ)) → pick l (answered (λ vals. Read (contractOf kind vals)) Refused o) (Refused (refusal 1 0)) ≡ Read c
         → agrees kind c ≡ true
     go true (done vals end) h = let made : contractOf kind vals ≡ c = cc in sym (ap (agrees kind) made) ∙ agrees-of kind vals there
-    go true (refused n at i) h = absurd (apart (refusal n at) c h)
+    go true (refused n at i) h = absurd (apart (refusalAt n at i) c h)
     go false o h = absurd (apart (refusal 1 0) c h)
 
 -- A contract that agrees is written by its table; no other is.
@@ -147,7 +147,7 @@ write-known kind c before there agree = rw (there, agree) (go (eqb (length befor
     x : Written
     x = written before (write (tableOf kind) 232 (numbersOf kind c))
 
-    go : (b : Bool) → pick b (pick b x (denied 1 0 before)) (denied 1 0 before) ≡ pick b x (denied 1 0 before)
+    go : (b : Bool) → pick b (pick b x (denied (refusal 1 0) before)) (denied (refusal 1 0) before) ≡ pick b x (denied (refusal 1 0) before)
     go true = refl
     go false = refl
 
@@ -166,7 +166,7 @@ known-written kind c before after = go (eqb (length before) 29) (known kind) (ag
     x : Written
     x = writeRecord (tableOf kind) (numbersOf kind c) before
 
-    go : (l t a : Bool) → pick l (pick t (pick a x (disagreement c before)) (denied 3 0 before)) (denied 1 0 before) ≡ accepted after
+    go : (l t a : Bool) → pick l (pick t (pick a x (disagreement c before)) (denied (refusal 3 0) before)) (denied (refusal 1 0) before) ≡ accepted after
         → (t ≡ true) × (a ≡ true)
     go true true true h = (refl, refl)
     go true true false h = absurd (not-disagreed c before after h)
@@ -206,14 +206,14 @@ unfolding head
 disagreement-comes c before =
     written-comes before (andThen (write head 232 (headNumbers c)) (λ bs end. refused 7 end 9))
     (refuses-then (7 ∷ []) (write head 232 (headNumbers c)) (λ bs end. refused 7 end 9) (write-number head 232 (headNumbers c))
-    (λ bs end. record { some = λ z. omega arith; listed = refl }))
+    (λ bs end. record { some = λ z. omega arith; listed = refl; named = refl }))
 
 -- The refusals of a reading and of a writing.
 pub contract-comes : (kind : ℕ) (bytes : List ℕ) → ComesTo Read Refused (1 ∷ 3 ∷ 2 ∷ 4 ∷ 5 ∷ []) (contractRead kind bytes)
 contract-comes kind bytes =
     either (eqb (length bytes) 29)
-    (either (known kind) (comes-within (record-comes (contractOf kind) (tableOf kind) bytes) (contract-numbers (isCarnet kind) .0)) (stops (refusal 3 0) refl refl))
-    (stops (refusal 1 0) refl refl)
+    (either (known kind) (comes-within (record-comes (contractOf kind) (tableOf kind) bytes) (contract-numbers (isCarnet kind) .0)) (stops (refusal 3 0) refl refl refl))
+    (stops (refusal 1 0) refl refl refl)
 
 pub contract-write-comes : (kind : ℕ) (c : Contract) (before : List ℕ)
     → ComesTo accepted (unwritten before) (1 ∷ 3 ∷ 7 ∷ 2 ∷ 4 ∷ []) (contractWritten kind c before)
@@ -222,5 +222,5 @@ contract-write-comes kind c before =
     (either (known kind)
     (either (agrees kind c) (comes-within (record-write-comes (tableOf kind) (numbersOf kind c) before) (contract-numbers (isCarnet kind) .1))
     (comes-within (disagreement-comes c before) refl))
-    (stops (refusal 3 0) refl refl))
-    (stops (refusal 1 0) refl refl)
+    (stops (refusal 3 0) refl refl refl))
+    (stops (refusal 1 0) refl refl refl)

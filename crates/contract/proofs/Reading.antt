@@ -1,20 +1,21 @@
 -- From the takes of the head and of a type's data to the answer about a record's bytes.
-use Prim.Native.Nat.{ℕ}
+use Prim.Native.Nat.{ℕ, _^_, _<_}
 use mathlib.Core.List.{List, [], _∷_, _++_, map, append-nil, append-assoc}
 use mathlib.Core.Bool.{Bool, true, false, false≢true}
 use mathlib.Core.Path.{_≡_, refl, ap, _∙_}
+use native.Mathlib.Omega.{arith}
 use lib.ListN.{length}
 use lib.Dec.{eqb}
 use borrow.Author.Tests.{eq-eqb, eqb-true, eqb-false}
 use Rattle.rows.specs.Row.{Row, pick, told, holds}
 use Rattle.bits.specs.Bits.{cut, spread}
 use Rattle.rows.specs.inner.Step.{Ready, Ended}
-use Rattle.rows.specs.inner.Line.{start, Takes, taken, _▸_, Taken}
+use Rattle.rows.specs.inner.Line.{start, Takes, Taken}
 use Rattle.rows.specs.declared.Cursor.{Cursor}
 use Rattle.rows.specs.table.Contract.{head, data42, data50, contract42, contract50}
-use Rattle.rows.proofs.Taking.{took-skip}
-use Rattle.rows.proofs.Running.{takes-append, stopped}
-use Rattle.records.specs.Answer.{refusal}
+use Rattle.rows.proofs.Running.{takes-append, stopped, Skips, skips-none, skips-more, skips-ended}
+use Rattle.rows.proofs.Tables.{carnet-rows, urban-rows}
+use Rattle.records.specs.inner.Met.{met}
 use Rattle.contract.proofs.Absent.{zeroSlots, absent}
 use Rattle.records.proofs.Answering.{record-read, record-refused}
 use Rattle.contract.specs.Contract.{headNumbers, numbers42, numbers50, isCarnet, tableOf, follow, known, withData, contractOf, contractTold, contractRead}
@@ -37,21 +38,21 @@ module _ (words : List ℕ) (kind : ℕ) (h : Contract) (c last : Cursor) (front
   unfolding contract50
   taken50 d e rest = rw e (record { takes = takes-append (front .takes) (rest .takes); ready = rest .ready })
 
--- Rows that are absent leave a cursor where it is, and zeros in their slots.
-skip-rows : {words : List ℕ} {c : Cursor} → Ready words 232 c → c .why ≡ 0 → (rs : List Row) (seen : List ℕ) → absent rs seen ≡ true
-    → Takes words 232 rs seen c (seen ++ zeroSlots rs) c
-skip-rows ready clear [] seen none = rw append-nil taken
-skip-rows {words} {c} ready clear (r ∷ rs) seen none =
-    go (holds (told (r .cond) seen)) refl none (skip-rows ready clear rs (seen ++ map (λ (w : ℕ). 0) (r .boxes)))
+-- Rows that are absent leave zeros in their slots.
+skip-rows : {words : List ℕ} (rs : List Row) (seen : List ℕ) (c : Cursor) → Ready words 232 c → c .why ≡ 0 → absent rs seen ≡ true
+    → Skips words 232 rs seen c (seen ++ zeroSlots rs)
+skip-rows [] seen c ready clear none = rw append-nil (skips-none ready clear seen)
+skip-rows {words} (r ∷ rs) seen c ready clear none =
+    go (holds (told (r .cond) seen)) refl none (λ d on ok off. skip-rows rs (seen ++ map (λ (w : ℕ). 0) (r .boxes)) d on ok off)
   where
     next : List ℕ
     next = seen ++ map (λ (w : ℕ). 0) (r .boxes)
 
     go : (b : Bool) → holds (told (r .cond) seen) ≡ b → pick b false (absent rs next) ≡ true
-        → (absent rs next ≡ true → Takes words 232 rs next c (next ++ zeroSlots rs) c)
-        → Takes words 232 (r ∷ rs) seen c (seen ++ zeroSlots (r ∷ rs)) c
+        → ((d : Cursor) → Ready words 232 d → d .why ≡ 0 → absent rs next ≡ true → Skips words 232 rs next d (next ++ zeroSlots rs))
+        → Skips words 232 (r ∷ rs) seen c (seen ++ zeroSlots (r ∷ rs))
     go true e off rest = absurd (false≢true off)
-    go false e off rest = took-skip words 232 c _ (r .boxes) (r .rule) ready clear e ▸ (rw append-assoc at (rest off))
+    go false e off rest = skips-more ready clear e (λ d on ok. rw append-assoc at (rest d on ok off))
 
 off42 : (h : Contract) → follow (h .bitmap) ≡ false → absent data42 (headNumbers h) ≡ true
 unfolding data42
@@ -64,25 +65,42 @@ off50 h none = rw none
 -- The takes of a type's whole table where no data follow: behind the head all rows are absent, or it was refused.
 pub record Rest (words : List ℕ) (kind : ℕ) (h : Contract) (c : Cursor) : Type 0 where
   pub behind : List ℕ
-  pub taken : Taken words 232 (tableOf kind) [] start (headNumbers h ++ behind) c
+  pub last : Cursor
+  pub taken : Taken words 232 (tableOf kind) [] start (headNumbers h ++ behind) last
+  pub ended : (e : Cursor) → Ended words 232 c e → Ended words 232 last e
 
 pub rest-none : (words : List ℕ) (kind : ℕ) (h : Contract) (c : Cursor) → Taken words 232 head [] start (headNumbers h) c → follow (h .bitmap) ≡ false
     → Rest words kind h c
 unfolding contract42 contract50
-rest-none words kind h c front none = go (eqb (c .why) 0) refl (isCarnet kind) refl
+rest-none words kind h c front none = go (isCarnet kind) refl
   where
-    both : (rows : List Row) (vs : List ℕ) → Takes words 232 rows (headNumbers h) c (headNumbers h ++ vs) c
-        → Taken words 232 (head ++ rows) [] start (headNumbers h ++ vs) c
-    both rows vs rest = record { takes = takes-append (front .takes) rest; ready = front .ready }
+    -- What the rows behind the head come to.
+    Behind : List Row → Type 0
+    Behind rows = (vs : List ℕ) × (last : Cursor) × Taken words 232 (head ++ rows) [] start (headNumbers h ++ vs) last × ((e : Cursor) → Ended words 232 c e → Ended words 232 last e)
 
-    stop : (c .why ≡ 0 → ⊥) → (rows : List Row) → Takes words 232 rows (headNumbers h) c (headNumbers h ++ []) c
-    stop why rows = rw append-nil (stopped (front .ready) why rows (headNumbers h))
+    both : (rows : List Row) → absent rows (headNumbers h) ≡ true → (b : Bool) → eqb (c .why) 0 ≡ b → Behind rows
+    both rows off true e =
+        let skips = skip-rows rows (headNumbers h) c (front .ready) (eqb-true _ _ e) off in
+        (zeroSlots rows, skips .last, record { takes = takes-append (front .takes) (skips .takes); ready = skips .ready }, λ d ended. skips-ended d skips (eqb-true _ _ e) ended)
+    both rows off false e =
+        let stops : Takes words 232 rows (headNumbers h) c (headNumbers h ++ []) c = rw append-nil (stopped (front .ready) (eqb-false _ _ e) rows (headNumbers h)) in
+        ([], c, record { takes = takes-append (front .takes) stops; ready = front .ready }, λ d ended. ended)
 
-    go : (b : Bool) → eqb (c .why) 0 ≡ b → (k : Bool) → isCarnet kind ≡ k → Rest words kind h c
-    go true e true k = record { behind = zeroSlots data42; taken = rw k (both data42 _ (skip-rows (front .ready) (eqb-true _ _ e) data42 (headNumbers h) (off42 h none))) }
-    go true e false k = record { behind = zeroSlots data50; taken = rw k (both data50 _ (skip-rows (front .ready) (eqb-true _ _ e) data50 (headNumbers h) (off50 h none))) }
-    go false e true k = record { behind = []; taken = rw k (both data42 [] (stop (eqb-false _ _ e) data42)) }
-    go false e false k = record { behind = []; taken = rw k (both data50 [] (stop (eqb-false _ _ e) data50)) }
+    go : (k : Bool) → isCarnet kind ≡ k → Rest words kind h c
+    go true k =
+        let (vs, last, takes, ended) = both data42 (off42 h none) (eqb (c .why) 0) refl in
+        record { behind = vs; last = last; taken = rw k takes; ended = ended }
+    go false k =
+        let (vs, last, takes, ended) = both data50 (off50 h none) (eqb (c .why) 0) refl in
+        record { behind = vs; last = last; taken = rw k takes; ended = ended }
+
+-- Both types have a table that is short enough.
+pub few-rows : (kind : ℕ) → length (tableOf kind) < 2 ^ 32
+few-rows kind = go (isCarnet kind)
+  where
+    go : (b : Bool) → length (pick b contract42 contract50) < 2 ^ 32
+    go true = omega (arith, carnet-rows)
+    go false = omega (arith, urban-rows)
 
 -- The contract of the numbers taken: with its data where they follow, and without.
 module _ (kind : ℕ) (h : Contract) where
@@ -102,8 +120,8 @@ module _ (kind : ℕ) (bytes words all : List ℕ) (last e : Cursor)
     (cuts : words ≡ cut 32 64 8 (spread 8 bytes))
     (taken : Taken words 232 (tableOf kind) [] start all last)
     (ended : Ended words 232 last e) where
-  pub told-refused : (r : ContractRead) → r ≡ Refused (refusal (e .why) (e .at)) → (e .why ≡ 0 → ⊥) → contractTold r ≡ contractTold (contractRead kind bytes)
-  told-refused r is why = rw (eq-eqb _ _ whole, there) (ap contractTold (is ∙ record-refused _ _ _ bytes words _ _ _ whole cuts taken ended why))
+  pub told-refused : (r : ContractRead) → r ≡ Refused (met e) → (e .why ≡ 0 → ⊥) → contractTold r ≡ contractTold (contractRead kind bytes)
+  told-refused r is why = rw (eq-eqb _ _ whole, there) (ap contractTold (is ∙ record-refused _ _ _ bytes words _ _ _ (few-rows kind) whole cuts taken ended why))
 
   pub told-read : (v : Contract) → v ≡ contractOf kind all → e .why ≡ 0 → contractTold (Read v) ≡ contractTold (contractRead kind bytes)
-  told-read v is ok = rw (eq-eqb _ _ whole, there) (ap contractTold (ap Read is ∙ record-read _ _ _ bytes words _ _ _ whole cuts taken ended ok))
+  told-read v is ok = rw (eq-eqb _ _ whole, there) (ap contractTold (ap Read is ∙ record-read _ _ _ bytes words _ _ _ (few-rows kind) whole cuts taken ended ok))

@@ -4,7 +4,7 @@ use mathlib.Core.List.{List, _++_}
 use mathlib.Core.Path.{_≡_, refl}
 use lib.ListN.{getD, take, drop}
 use Rattle.rows.specs.Row.{pick}
-use Rattle.records.specs.Answer.{Told, refusal}
+use Rattle.records.specs.Answer.{Told, refusalAt}
 use Rattle.records.proofs.Telling.{told-one}
 use Rattle.contract.specs.Contract.{headOf, withData, data42Of, data50Of, isCarnet, isUrban, contractTold}
 use Rattle.contract.specs.declared.Data.{Data}
@@ -21,7 +21,7 @@ abbrev contract-back : Told → ContractRead
 contract-back t =
     pick (t .holds)
     (Read (withData (headOf (t .values)) (data-back (getD (t .values) 9 0) (take 9 (t .values) ++ drop 10 (t .values)))))
-    (Refused (refusal (t .number) (t .place)))
+    (Refused (refusalAt (t .number) (t .place) (t .field)))
 
 contract-returned : (r : ContractRead) → contract-back (contractTold r) ≡ r
 contract-returned (Read c) = go (c .«data»)

@@ -1,7 +1,7 @@
 -- Contract as a value: the numbers of the head, and the data that follow it: none, those of 42h or those of 50h. Document 01,
 -- "Contract, common head".
 use Prim.Native.Nat.{ℕ, _/_, _^_}
-use mathlib.Core.Bool.{Bool, true, false, not, _&&_, _||_}
+use mathlib.Core.Bool.{Bool, not, _&&_, _||_}
 use mathlib.Core.List.{List, [], _∷_, _++_}
 use lib.Dec.{eqb}
 use lib.ListN.{length, getD}
@@ -214,7 +214,7 @@ dataTold Nothing = 0 ∷ []
 dataTold (Carnet d) = 66 ∷ numbers42 d
 dataTold (Urban d) = 80 ∷ numbers50 d
 
--- The cases of the answer to a reading, each by its number, its place and its values.
+-- The cases of the answer to a reading, each by its number, its place, its field and its values.
 abbrev pub contractTold : ContractRead → Told
 contractTold (Read c) = toldValue (headNumbers c ++ dataTold (c .«data»))
 contractTold (Refused r) = toldRefusal 10 r
@@ -254,7 +254,8 @@ urban (Urban d) = d
 abbrev pub numbersOf : ℕ → Contract → List ℕ
 numbersOf kind c = headNumbers c ++ pick (isCarnet kind) (numbers42 (carnet (c .«data»))) (numbers50 (urban (c .«data»)))
 
--- Data that do not agree: 7 at the first bit after the head, if the head has no fault.
+-- Data that do not agree: 7 at the first bit after the head, as a whole under the rank of their first field, if the head has no
+-- fault. Document 02, Q-2.
 abbrev pub disagreement : Contract → List ℕ → Written
 disagreement c before = written before (andThen (write head 232 (headNumbers c)) (λ bs end. refused 7 end 9))
 
@@ -263,4 +264,4 @@ abbrev pub contractWritten : ℕ → Contract → List ℕ → Written
 contractWritten kind c before =
     checked kind before
     (pick (agrees kind c) (writeRecord (tableOf kind) (numbersOf kind c) before) (disagreement c before))
-    (λ n. denied n 0 before)
+    (λ n. denied (refusal n 0) before)

@@ -8,7 +8,8 @@ ghost use Rattle.rows.specs.inner.Line.{start, Taken, Given, Puts};
 ghost use Rattle.rows.specs.table.Contract.{head, data42, data50};
 ghost use Rattle.contract.specs.Contract.{behind, headNumbers, numbers42, numbers50, follow, known, withData, agrees, carnet, urban, contractTold, contractRead, contractWritten};
 ghost use Rattle.contract.specs.inner.Steps.{disagreed, PutOf};
-ghost use Rattle.records.specs.Answer.{refusal, Written};
+ghost use Rattle.records.specs.Answer.{Written};
+ghost use Rattle.records.specs.inner.Met.{met};
 use records::BITS;
 use records::BYTES;
 use records::LAST_MINUTE;
@@ -101,6 +102,11 @@ impl Contract {
     pub const CARNET: u32 = 66;
 
     pub const URBAN: u32 = 80;
+
+    // The rank of the first field of the data, by which they are named as a whole, and how many fields a walk has then come to.
+    pub const DATA_FIELD: u32 = 9;
+
+    const TO_DATA: u32 = Contract::DATA_FIELD + 1;
 }
 
 impl Data42 {
@@ -190,10 +196,7 @@ pub fn read(bytes: &[u8], kind: u32) -> ContractRead
         return ContractRead::Refused(Refusal::WRONG_LENGTH);
     }
     if !known(kind) {
-        return ContractRead::Refused(Refusal {
-            number: 3,
-            place: 0,
-        });
+        return ContractRead::Refused(Refusal::UNKNOWN_TYPE);
     }
     let mut words = [0u64; 8];
     bits::words(bytes, &mut words);
@@ -228,12 +231,9 @@ pub fn read(bytes: &[u8], kind: u32) -> ContractRead
 }
 
 fn refused(end: Cursor) -> ContractRead
-    ensures { λ r. ⌜ r ≡ ContractRead.Refused (refusal (end .why) (end .at)) ⌝ }
+    ensures { λ r. ⌜ r ≡ ContractRead.Refused (met end) ⌝ }
 {
-    ContractRead::Refused(Refusal {
-        number: end.why,
-        place: end.at,
-    })
+    ContractRead::Refused(Refusal::met(end))
 }
 
 // Whether the data follow the head: bit [6] of its bitmap.
@@ -481,21 +481,12 @@ pub fn write(bytes: &mut [u8], kind: u32, c: Contract) -> Refusal
         return Refusal::WRONG_LENGTH;
     }
     if !known(kind) {
-        return Refusal {
-            number: 3,
-            place: 0,
-        };
+        return Refusal::UNKNOWN_TYPE;
     }
     let mut draft = [0u64; 9];
     let last = put_fields(&mut draft, kind, c);
     put::end(&draft, last, bytes);
-    if last.why == 0 {
-        return Refusal::NONE;
-    }
-    Refusal {
-        number: last.why,
-        place: last.at,
-    }
+    Refusal::met(last)
 }
 
 fn put_fields(draft: &mut [u64], kind: u32, c: Contract) -> Cursor
@@ -528,7 +519,7 @@ fn agrees(kind: u32, c: Contract) -> bool
     }
 }
 
-// Data that do not agree are 7 at the first bit after the head.
+// Data that do not agree are 7 at the first bit after the head, as a whole.
 fn disagreed(head: Cursor) -> Cursor
     ensures { λ d. ⌜ d ≡ disagreed head ⌝ }
 {
@@ -536,6 +527,7 @@ fn disagreed(head: Cursor) -> Cursor
         return Cursor {
             at: head.at,
             why: 7,
+            field: Contract::TO_DATA,
             number: 0,
         };
     }

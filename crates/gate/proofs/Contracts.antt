@@ -19,7 +19,7 @@ use Rattle.rows.specs.declared.Rule.{Rule}
 use Rattle.rows.specs.declared.Rule.the-variants.{Any, Most, Tariff, NoSecond}
 use Rattle.rows.specs.table.Contract.{head, data42, data50, contract42, contract50}
 use Rattle.rows.proofs.Boxes.{total-append}
-use Rattle.records.specs.Answer.{refusal, answered, readRecord}
+use Rattle.records.specs.Answer.{refusal, refusalAt, answered, readRecord}
 use Rattle.contract.specs.Contract.{tableOf, contractOf, known, contractRead}
 use Rattle.records.specs.declared.Refusal.{Refusal}
 use Rattle.contract.specs.declared.Contract.{Contract}
@@ -148,7 +148,7 @@ contract-slots kind bytes c = go (eqb (length bytes) 29) (known kind) (read (tab
     go : (a b : Bool) (o : Outcome (List ℕ)) → eqb (length bytes) 29 ≡ a → known kind ≡ b → read (tableOf kind) (spread 8 bytes) ≡ o
         → out a b o ≡ Read c → Slots kind bytes c
     go true true (done vals end) e f g h = record { vals = vals; end = end; reads = g; value = cc; long = eqb-true _ _ e; type = f }
-    go true true (refused n at i) e f g h = never (refusal n at) h
+    go true true (refused n at i) e f g h = never (refusalAt n at i) h
     go true false o e f g h = never (refusal 3 0) h
     go false b o e f g h = never (refusal 1 0) h
 
@@ -160,7 +160,7 @@ module _ (kind slot : ℕ) (judged : Judged (tableOf kind) slot) (bytes : List �
   raised = after (tableOf kind) (s .vals) (together (writesIn calls))
 
   contract-raised : contractRead kind (called bytes calls)
-      ≡ pick (ltb 1439 (getD raised slot 0)) (Refused (refusal 4 (total (take slot (frame (tableOf kind) (s .vals)))))) (Read (contractOf kind raised))
+      ≡ pick (ltb 1439 (getD raised slot 0)) (Refused (refusalAt 4 (total (take slot (frame (tableOf kind) (s .vals)))) slot)) (Read (contractOf kind raised))
   unfolding readRecord
   contract-raised =
       let long : length (called bytes calls) ≡ 29 = called-length bytes calls (s .long) accepted in
@@ -178,7 +178,7 @@ module _ (kind slot : ℕ) (judged : Judged (tableOf kind) slot) (bytes : List �
 
       go : (t : Bool) (place end : ℕ)
           → answered (λ vals. Read (contractOf kind vals)) Refused (pick t (refused 4 place slot) (done raised end))
-          ≡ pick t (Refused (refusal 4 place)) (Read (contractOf kind raised))
+          ≡ pick t (Refused (refusalAt 4 place slot)) (Read (contractOf kind raised))
       go true place end = refl
       go false place end = refl
 
@@ -188,7 +188,7 @@ pub carnet-raised : (bytes : List ℕ) (calls : List (List ℕ)) (c : Contract) 
     → AllSpare contract42 (s .vals) (s .end) (writesIn calls)
     → contractRead 66 (called bytes calls)
     ≡ pick (ltb 1439 (getD (after contract42 (s .vals) (together (writesIn calls))) 12 0))
-    (Refused (refusal 4 (total (take 12 (frame contract42 (s .vals))))))
+    (Refused (refusalAt 4 (total (take 12 (frame contract42 (s .vals)))) 12))
     (Read (contractOf 66 (after contract42 (s .vals) (together (writesIn calls)))))
 carnet-raised bytes calls c s accepted spare = contract-raised 66 12 carnet-judged bytes calls c s accepted spare
 
@@ -198,6 +198,6 @@ pub urban-raised : (bytes : List ℕ) (calls : List (List ℕ)) (c : Contract) (
     → AllSpare contract50 (s .vals) (s .end) (writesIn calls)
     → contractRead 80 (called bytes calls)
     ≡ pick (ltb 1439 (getD (after contract50 (s .vals) (together (writesIn calls))) 42 0))
-    (Refused (refusal 4 (total (take 42 (frame contract50 (s .vals))))))
+    (Refused (refusalAt 4 (total (take 42 (frame contract50 (s .vals)))) 42))
     (Read (contractOf 80 (after contract50 (s .vals) (together (writesIn calls)))))
 urban-raised bytes calls c s accepted spare = contract-raised 80 42 urban-judged bytes calls c s accepted spare

@@ -87,7 +87,7 @@ accepted-call bytes c = go (eqb (length bytes) 29) (eqb (length c % 29) 0) (ltb 
     bits = applied (spread 8 bytes) (writesOf (length c / 29) c)
 
     out : (a b d : Bool) → Written
-    out a b d = pick (a && b) (pick d (denied 11 0 bytes) (accepted (cut 8 8 29 bits))) (denied 1 0 bytes)
+    out a b d = pick (a && b) (pick d (denied (refusal 11 0) bytes) (accepted (cut 8 8 29 bits))) (denied (refusal 1 0) bytes)
 
     go : (a b d : Bool) → eqb (length bytes) 29 ≡ a → eqb (length c % 29) 0 ≡ b → out a b d .answer .number ≡ 0
         → (length bytes ≡ 29) × (length c % 29 ≡ 0) × (length (out a b d .bytes) ≡ 29) × (spread 8 (out a b d .bytes) ≡ bits)
@@ -187,7 +187,7 @@ found-none-falls present wanted before =
     found = accepted (cut 8 8 29 (only (spread 8 wanted) (spread 8 present)))
 
     go : (a b c t : Bool) → eqb (length present) 29 ≡ a → eqb (length wanted) 29 ≡ b → eqb (length before) 29 ≡ c → ltb (leading falls) 232 ≡ t
-        → pick (a && b && c) (pick t (denied 10 (leading falls) before) found) (denied 1 0 before) .answer .number ≡ 0
+        → pick (a && b && c) (pick t (denied (refusal 10 (leading falls)) before) found) (denied (refusal 1 0) before) .answer .number ≡ 0
         → (length present ≡ 29) × (length wanted ≡ 29) × (length before ≡ 29) × NoneFalls (spread 8 present) (spread 8 wanted)
     go false b c t e f g k h = absurd (omega arith)
     go true false c t e f g k h = absurd (omega arith)
@@ -302,15 +302,15 @@ finds-joined a b c x y z h k room =
 pub apply-comes : (before writes : List ℕ) → ComesTo accepted (unwritten before) (1 ∷ 11 ∷ []) (applying before writes)
 unfolding applying
 apply-comes before writes =
-    either (whole before && eqb (length writes % 29) 0) (either (ltb 15 (length writes / 29)) (stops (refusal 11 0) refl refl) (fine _))
-    (stops (refusal 1 0) refl refl)
+    either (whole before && eqb (length writes % 29) 0) (either (ltb 15 (length writes / 29)) (stops (refusal 11 0) refl refl refl) (fine _))
+    (stops (refusal 1 0) refl refl refl)
 
 pub find-comes : (present wanted before : List ℕ) → ComesTo accepted (unwritten before) (1 ∷ 10 ∷ []) (finding present wanted before)
 unfolding finding
 find-comes present wanted before =
     let at : ℕ = leading (only (spread 8 present) (spread 8 wanted)) in
-    either (whole present && whole wanted && whole before) (either (ltb at 232) (stops (refusal 10 at) refl refl) (fine _)) (stops (refusal 1 0) refl refl)
+    either (whole present && whole wanted && whole before) (either (ltb at 232) (stops (refusal 10 at) refl refl refl) (fine _)) (stops (refusal 1 0) refl refl refl)
 
 pub join-comes : (a b before : List ℕ) → ComesTo accepted (unwritten before) (1 ∷ []) (joining a b before)
 unfolding joining
-join-comes a b before = either (whole a && whole b && whole before) (fine _) (stops (refusal 1 0) refl refl)
+join-comes a b before = either (whole a && whole b && whole before) (fine _) (stops (refusal 1 0) refl refl refl)

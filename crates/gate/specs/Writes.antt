@@ -7,7 +7,7 @@ use lib.Dec.{eqb, ltb}
 use lib.ListN.{length, getD, take, drop}
 use Rattle.bits.specs.Bits.{spread, cut, join, leading}
 use Rattle.rows.specs.Row.{pick}
-use Rattle.records.specs.Answer.{Written, accepted, denied}
+use Rattle.records.specs.Answer.{Written, refusal, accepted, denied}
 
 -- Bits after some writes, one after the other: a gate only raises bits.
 abbrev pub applied : List Bool → List (List Bool) → List Bool
@@ -33,23 +33,23 @@ whole bytes = eqb (length bytes) 29
 unfoldable pub applying : List ℕ → List ℕ → Written
 applying before writes =
     pick (whole before && eqb (length writes % 29) 0)
-    (pick (ltb 15 (length writes / 29)) (denied 11 0 before)
+    (pick (ltb 15 (length writes / 29)) (denied (refusal 11 0) before)
     (accepted (cut 8 8 29 (applied (spread 8 before) (writesOf (length writes / 29) writes)))))
-    (denied 1 0 before)
+    (denied (refusal 1 0) before)
 
 -- Finding the write from present to wanted: 10 at the first bit that would have to fall; else the bits that are missing.
 unfoldable pub finding : List ℕ → List ℕ → List ℕ → Written
 finding present wanted before =
     pick (whole present && whole wanted && whole before)
     (pick (ltb (leading (only (spread 8 present) (spread 8 wanted))) 232)
-    (denied 10 (leading (only (spread 8 present) (spread 8 wanted))) before)
+    (denied (refusal 10 (leading (only (spread 8 present) (spread 8 wanted)))) before)
     (accepted (cut 8 8 29 (only (spread 8 wanted) (spread 8 present)))))
-    (denied 1 0 before)
+    (denied (refusal 1 0) before)
 
 -- Joining two writes: bitwise or.
 unfoldable pub joining : List ℕ → List ℕ → List ℕ → Written
 joining a b before =
-    pick (whole a && whole b && whole before) (accepted (cut 8 8 29 (join (spread 8 a) (spread 8 b)))) (denied 1 0 before)
+    pick (whole a && whole b && whole before) (accepted (cut 8 8 29 (join (spread 8 a) (spread 8 b)))) (denied (refusal 1 0) before)
 
 -- Whether bit i is one in some of the writes.
 abbrev pub inSome : ℕ → List (List Bool) → Bool

@@ -70,6 +70,7 @@ pub fn find(present: &[u8], wanted: &[u8], write: &mut [u8]) -> Refusal
         return Refusal {
             number: 10,
             place: fall,
+            field: 0,
         };
     }
     keep_only(wanted, present, write);

@@ -37,7 +37,7 @@ holder-read-write bytes onto h small long e = rw long (go (areaLength (length by
   where
     go : (b : Bool) (o : Outcome (List ℕ)) → read holder (spread 8 bytes) ≡ o
         → pick b (answered (λ vals. readOf (holderOf vals)) unread o) (unread (refusal 1 0)) ≡ readOf h
-        → pick b (written onto (write holder (8 * length bytes) (numbersOf h))) (denied 1 0 onto) ≡ accepted bytes
+        → pick b (written onto (write holder (8 * length bytes) (numbersOf h))) (denied (refusal 1 0) onto) ≡ accepted bytes
     go true (done vals end) r e =
         let value : holderOf vals ≡ h = ap (λ (x : HolderRead). x .holder) e in
         let slots : numbersOf h ≡ vals = ap numbersOf (sym value) ∙ forth vals (read-sized (spread 8 bytes) r) in
@@ -53,7 +53,7 @@ unfolding readArea writeArea holder
 holder-write-read before after h long counted = go (areaLength (length before)) refl
   where
     go : (b : Bool) → areaLength (length before) ≡ b
-        → pick b (written before (write holder (8 * length before) (numbersOf h))) (denied 1 0 before) ≡ accepted after
+        → pick b (written before (write holder (8 * length before) (numbersOf h))) (denied (refusal 1 0) before) ≡ accepted after
         → pick (areaLength (length after)) (answered (λ vals. readOf (holderOf vals)) unread (read holder (spread 8 after))) (unread (refusal 1 0)) ≡ readOf h
     go true l e =
         let again = slots-write-read holder (8 * length before) before refl (numbersOf h) after refl e in

@@ -7,7 +7,7 @@ ghost use lib.ListN.{length};
 ghost use Rattle.rows.specs.inner.Step.{Ready, Took, Drafted, Gave};
 ghost use Rattle.rows.specs.inner.Line.{start, Taken, Puts, Given};
 ghost use Rattle.rows.specs.table.Holder.{holder};
-ghost use Rattle.records.specs.Answer.{Written, areaLength, refusal, from};
+ghost use Rattle.records.specs.Answer.{Written, areaLength, from};
 ghost use Rattle.holder.specs.Holder.{numbersOf, unread, holderRead, holderWritten};
 ghost use Rattle.holder.specs.inner.Steps.{block, ProfileTook, ProfileGave};
 use records::Refusal;
@@ -283,11 +283,11 @@ fn take_fields(words: &[u64], end: u32) -> Fields
     take_data(words, end, profiles)
 }
 
-fn refused(number: u32, place: u32) -> HolderRead
-    ensures { λ r. ⌜ r ≡ unread (refusal number place) ⌝ }
+fn refused(refusal: Refusal) -> HolderRead
+    ensures { λ r. ⌜ r ≡ unread refusal ⌝ }
 {
     HolderRead {
-        refusal: Refusal { number, place },
+        refusal,
         holder: Holder::ZERO,
     }
 }
@@ -299,7 +299,7 @@ pub fn read(bytes: &[u8]) -> HolderRead
     if is_area(bytes.len()) {
         return read_area(bytes);
     }
-    refused(1, 0)
+    refused(Refusal::WRONG_LENGTH)
 }
 
 fn read_area(bytes: &[u8]) -> HolderRead
@@ -313,7 +313,7 @@ fn read_area(bytes: &[u8]) -> HolderRead
     let last = fields.last;
     let c = take::end(&words, end, last);
     if c.why != 0 {
-        return refused(c.why, c.at);
+        return refused(Refusal::met(c));
     }
     let holder = fields.value;
     HolderRead {
@@ -340,13 +340,7 @@ fn write_area(bytes: &mut [u8], h: Holder) -> Refusal
     let mut draft = [0u64; 31];
     let last = put_fields(&mut draft, room, h);
     put::end(&draft, last, bytes);
-    if last.why == 0 {
-        return Refusal::NONE;
-    }
-    Refusal {
-        number: last.why,
-        place: last.at,
-    }
+    Refusal::met(last)
 }
 
 fn put_fields(draft: &mut [u64], room: u32, h: Holder) -> Cursor

@@ -70,12 +70,13 @@ fn digit(n: u8) -> u8 {
 // The beginning of every answer.
 pub fn refusal(out: &mut [u8], refusal: Refusal) -> usize {
     let place = digits(out, 0, refusal.number);
-    number(out, place, refusal.place)
+    let field = number(out, place, refusal.place);
+    number(out, field, refusal.field)
 }
 
 // The answer to a read that is accepted.
 pub fn accepted(out: &mut [u8], values: &[u32]) -> usize {
-    let end = text(out, 0, b"0 0");
+    let end = text(out, 0, b"0 0 0");
     numbers(out, end, values)
 }
 

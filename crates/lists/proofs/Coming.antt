@@ -25,7 +25,7 @@ obeying-number {A} k ns o why =
   where
     go : (t : Bool) (a : A) (end place : ℕ) → Refuses (1 ∷ 11 ∷ 6 ∷ ns) (pick t (done a end) (refused 6 place 0))
     go true a end place = tt
-    go false a end place = record { some = λ z. omega arith; listed = refl }
+    go false a end place = record { some = λ z. omega arith; listed = refl; named = refl }
 
 module _ {A B : Type 0} {good : A → B} {bad : Refusal → B} (valueOf : List ℕ → A) (fault : List ℕ → ℕ) (outside : Bool) (rows : List Row) (bytes : List ℕ) where
   pub listing-comes : ComesTo good bad (1 ∷ 11 ∷ 6 ∷ readNumbers 232 rows) (readList (λ vals. good (valueOf vals)) bad fault outside rows bytes)
@@ -39,17 +39,17 @@ module _ {A B : Type 0} {good : A → B} {bad : Refusal → B} (valueOf : List �
           → ComesTo good bad (1 ∷ 11 ∷ 6 ∷ readNumbers 232 rows)
           (pick t (pick outside (bad (refusal 11 0)) (answered (λ vals. good (valueOf vals)) bad o)) (bad (refusal 1 0)))
       go true long =
-          either outside (stops (refusal 11 0) refl refl)
+          either outside (stops (refusal 11 0) refl refl refl)
           (answered-comes valueOf o
           (obeying-number fault (readNumbers 232 rows) (read rows (spread 8 bytes)) (bytes-number rows bytes (rw (eqb-true (length bytes) 29 long)))))
-      go false short = stops (refusal 1 0) refl refl
+      go false short = stops (refusal 1 0) refl refl refl
 
 pub listing-write-comes : (fault : List ℕ → ℕ) (outside : Bool) (rows : List Row) (vals before : List ℕ)
     → ComesTo accepted (unwritten before) (1 ∷ 11 ∷ 6 ∷ writeNumbers 232 rows) (writeList fault outside rows vals before)
 unfolding writeList
 listing-write-comes fault outside rows vals before =
     either (eqb (length before) 29)
-    (either outside (stops (refusal 11 0) refl refl)
+    (either outside (stops (refusal 11 0) refl refl refl)
     (written-comes before (andThen (write rows 232 vals) (λ bs end. obeying (fault vals) bs end))
     (obeying-number (λ bs. fault vals) (writeNumbers 232 rows) (write rows 232 vals) (write-number rows 232 vals))))
-    (stops (refusal 1 0) refl refl)
+    (stops (refusal 1 0) refl refl refl)

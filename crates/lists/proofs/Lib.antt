@@ -5,5 +5,6 @@ pub mod Relisting
 pub mod Kept
 pub mod Recoding
 pub mod Coming
+pub mod Rowing
 pub mod Lines
 pub mod Sounding

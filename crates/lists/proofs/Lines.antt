@@ -1,5 +1,5 @@
 -- The loops of the contract list's reader and writer: an entry more of the table's line, and the line of the whole table.
-use Prim.Native.Nat.{ℕ, zero, suc, _+_, _-_, _*_, _/_, _%_, _≤_, _<_}
+use Prim.Native.Nat.{ℕ, zero, suc, _+_, _-_, _*_, _/_, _%_, _^_, _≤_, _<_}
 use mathlib.Core.List.{List, [], _∷_, _++_, append-nil, append-assoc}
 use mathlib.Core.Bool.{Bool, true, false, _&&_, _||_}
 use mathlib.Core.Path.{_≡_, refl, sym, ap, _∙_}
@@ -7,7 +7,7 @@ use native.Mathlib.Omega.{arith}
 use native.Mathlib.Numerals.{add-one}
 use lib.Dec.{eqb, ltb, leb}
 use lib.ListN.{length, getD, set, take, drop, replicate, length-append, length-set, take-append-drop, List·getD-append}
-use lib.Seq.{length-take-le, take-all, split-at, take-suc, take-suc-set, drop-set-lt, drop-drop, drop-at}
+use lib.Seq.{getD-at, length-take-le, take-all, split-at, take-suc, take-suc-set, drop-set-lt, drop-drop, drop-at}
 use lib.Pow as pow
 use borrow.Author.Tests.{eq-eqb, ne-eqb, le-ltb, ltb-false, eqb-true, leb-true}
 use Rattle.bits.specs.Bits.{number, cut, spread}
@@ -15,15 +15,17 @@ use Rattle.bits.specs.inner.Words.{numberAt}
 use Rattle.bits.proofs.Cutting.{length-spread}
 use Rattle.rows.specs.Row.{Row, always, boxMost, pick}
 use Rattle.rows.specs.Walk.{done, refused, andThen, field, exceeds}
-use Rattle.rows.specs.inner.Step.{admitted, said, resume, Ready, Took, Drafted, Ended}
+use Rattle.rows.specs.inner.Step.{passes, admitted, resume, Ready, Took, Drafted, Ended}
 use Rattle.rows.specs.inner.Line.{start, Takes, taken, _▸_, Taken, Puts}
 use Rattle.rows.specs.table.BestContracts.{entry, contractList}
 use Rattle.rows.specs.declared.Cursor.{Cursor}
-use Rattle.rows.specs.declared.When.the-variants.{Always, Bit, Above}
+use Rattle.rows.specs.declared.When.the-variants.{Always, Bit}
 use Rattle.rows.specs.declared.Rule.the-variants.{Any, Most, Tariff}
-use Rattle.rows.proofs.Taking.{took-skip, took-box-held, took-tariff-held, held-part, ended-refused}
-use Rattle.rows.proofs.Running.{takes-append, stopped, puts-append}
-use Rattle.records.specs.Answer.{refusal}
+use Rattle.rows.proofs.Taking.{took-box-held, took-tariff-held, held-part, ended-refused}
+use Rattle.rows.proofs.Running.{takes-append, stopped, puts-append, Skips, skips-none, skips-more, skips-ended}
+use Rattle.rows.proofs.Stepping.{count-twice}
+use Rattle.rows.proofs.Tables.{list-rows}
+use Rattle.records.specs.inner.Met.{met}
 use Rattle.records.proofs.Inverse.{named-all}
 use Rattle.records.proofs.Answering.{eight-words}
 use Rattle.lists.specs.List.{entryNumbers, entryOf, numbersOf, listOf, outside, listFault, gotList, noList, listRead}
@@ -32,69 +34,43 @@ use Rattle.lists.specs.inner.Judging.{Judges}
 use Rattle.lists.specs.declared.list.Entry.{Entry}
 use Rattle.lists.specs.declared.list.ContractList.{ContractList}
 use Rattle.lists.specs.declared.rules.Judged.{Judged}
+use Rattle.lists.proofs.Rowing.{rowsFrom, rows-split, rows-more, flat, flat-append, length-flat}
 use Rattle.lists.proofs.Judging.{Turned, judges-more}
 use Rattle.lists.proofs.list.Laws.{bitmaps, pointers, fault-list, list-of-numbers}
-use Rattle.lists.proofs.Listing.{take-bitmap, take-element, list-read, list-refused}
+use Rattle.lists.proofs.Listing.{list-read, list-refused}
 
--- The rows of m entries, from entry k on.
-abbrev pub rowsFrom : ℕ → ℕ → List Row
-rowsFrom k zero = []
-rowsFrom k (suc m) = entry k ++ rowsFrom (suc k) m
+numbers-flat : (l : ContractList) → length (l .entries) ≡ 8 → numbersOf l ≡ l .count ∷ flat entryNumbers (l .entries)
+numbers-flat l eight = ap (λ (es : List Entry). l .count ∷ flat entryNumbers es) (named-all (entryOf [] 0) 8 (l .entries) eight)
 
-rows-split : (k m l : ℕ) → rowsFrom k (m + l) ≡ rowsFrom k m ++ rowsFrom (k + m) l
-rows-split k zero l =
-    let none : 0 + l ≡ l = omega arith in
-    let here : k + 0 ≡ k = omega arith in
-    rw (none, here)
-rows-split k (suc m) l =
-    let up : suc m + l ≡ suc (m + l) = omega arith in
-    let along : suc k + m ≡ k + suc m = omega arith in
-    rw up (ap (λ (rs : List Row). entry k ++ rs) (rows-split (suc k) m l ∙ rw along))
-
-rows-more : (k : ℕ) → rowsFrom 0 k ++ entry k ≡ rowsFrom 0 (k + 1)
-rows-more k = let here : 0 + k ≡ k = omega arith in sym (rw here at (rows-split 0 k 1))
-
--- The numbers of some entries.
-abbrev pub flat : List Entry → List ℕ
-flat [] = []
-flat (e ∷ es) = entryNumbers e ++ flat es
-
-flat-append : (ds es : List Entry) → flat (ds ++ es) ≡ flat ds ++ flat es
-flat-append [] es = refl
-flat-append (d ∷ ds) es = ap (λ (l : List ℕ). entryNumbers d ++ l) (flat-append ds es)
-
-length-flat : (es : List Entry) → length (flat es) ≡ 6 * length es
-length-flat [] = refl
-length-flat (e ∷ es) = let rest = length-flat es in omega arith
-
-numbers-flat : (l : ContractList) → length (l .entries) ≡ 8 → numbersOf l ≡ l .count ∷ flat (l .entries)
-numbers-flat l eight = ap (λ (es : List Entry). l .count ∷ flat es) (named-all (entryOf [] 0) 8 (l .entries) eight)
-
--- An entry that is not counted leaves a cursor where it is.
+-- An entry that is not counted has zeros.
 abbrev none : Entry
 none = entryOf [] 0
 
-module _ {words : List ℕ} {c : Cursor} (ready : Ready words 232 c) (clear : c .why ≡ 0) where
-  skip-entry : (k count : ℕ) (seen : List ℕ) → length seen ≡ 1 + 6 * k → getD seen 0 0 ≡ count → count ≤ k
-      → Takes words 232 (entry k) seen c (seen ++ entryNumbers none) c
-  skip-entry k count seen long counted past =
-      take-bitmap seen _ _ long counted (took-skip words 232 c (Above count k) (3 ∷ []) Any ready clear (le-ltb k count past))
-      (take-element seen _ _ long counted [] (took-skip words 232 c (Bit 0 0) (24 ∷ []) Any ready clear refl)
-      (take-element seen _ _ long counted (0 ∷ []) (took-skip words 232 c (Bit 0 1) (4 ∷ 8 ∷ 4 ∷ []) Tariff ready clear refl)
-      (take-element seen _ _ long counted (0 ∷ 0 ∷ 0 ∷ 0 ∷ []) (took-skip words 232 c (Bit 0 2) (5 ∷ []) Any ready clear refl) taken)))
+skip-entry : {words : List ℕ} (k count : ℕ) (seen : List ℕ) → length seen ≡ 1 + 6 * k → getD seen 0 0 ≡ count → count ≤ k
+    → {rs : List Row} {all : List ℕ} (c : Cursor) → Ready words 232 c → c .why ≡ 0
+    → ((d : Cursor) → Ready words 232 d → d .why ≡ 0 → Skips words 232 rs (seen ++ entryNumbers none) d all)
+    → Skips words 232 (entry k ++ rs) seen c all
+skip-entry k count seen long counted past c ready clear rest =
+    let marks : (some : List ℕ) → getD (seen ++ (0 ∷ some)) (1 + 6 * k) 0 ≡ 0 = λ some. getD-at seen 0 some 0 (1 + 6 * k) long in
+    skips-more ready clear (rw counted (le-ltb k count past))
+    (λ d on ok. skips-more on ok (rw (marks []))
+    (λ d on ok. rw append-assoc (skips-more on ok (rw (marks (0 ∷ [])))
+    (λ d on ok. rw append-assoc (skips-more on ok (rw (marks (0 ∷ 0 ∷ 0 ∷ 0 ∷ [])))
+    (λ d on ok. rw append-assoc (rest d on ok)))))))
 
-  skip-entries : (m k count : ℕ) (seen : List ℕ) → length seen ≡ 1 + 6 * k → getD seen 0 0 ≡ count → count ≤ k
-      → Takes words 232 (rowsFrom k m) seen c (seen ++ flat (replicate m none)) c
-  skip-entries zero k count seen long counted past = rw append-nil taken
-  skip-entries (suc m) k count seen long counted past =
-      let own : length seen ≡ 1 + 6 * k = long in
-      let front : getD (seen ++ entryNumbers none) 0 0 ≡ count = List·getD-append seen (entryNumbers none) 0 0 (omega arith) ∙ counted in
-      let rest = skip-entries m (suc k) count (seen ++ entryNumbers none) (rw (length-append seen (entryNumbers none)) (omega arith)) front (omega arith) in
-      takes-append (skip-entry k count seen long counted past) (rw (append-assoc seen (entryNumbers none) (flat (replicate m none))) at rest)
+skip-entries : {words : List ℕ} (m k count : ℕ) (seen : List ℕ) → length seen ≡ 1 + 6 * k → getD seen 0 0 ≡ count → count ≤ k
+    → (c : Cursor) → Ready words 232 c → c .why ≡ 0
+    → Skips words 232 (rowsFrom entry k m) seen c (seen ++ flat entryNumbers (replicate m none))
+skip-entries zero k count seen long counted past c ready clear = rw append-nil (skips-none ready clear seen)
+skip-entries (suc m) k count seen long counted past c ready clear =
+    let front : getD (seen ++ entryNumbers none) 0 0 ≡ count = List·getD-append seen (entryNumbers none) 0 0 (omega arith) ∙ counted in
+    skip-entry k count seen long counted past c ready clear
+    (λ d on ok. rw (append-assoc seen (entryNumbers none) (flat entryNumbers (replicate m none))) at
+    (skip-entries m (suc k) count (seen ++ entryNumbers none) (rw (length-append seen (entryNumbers none)) (omega arith)) front (omega arith) d on ok))
 
 -- A number that was taken is at most its most.
 most-read : (wide past over : Bool) (v x end at e i : ℕ)
-    → said (andThen (pick (eqb (pick wide 7 (pick past 2 (pick over 4 0))) 0) (done (v ∷ []) end) (refused (pick wide 7 (pick past 2 (pick over 4 0))) at i)) (λ vs e. done vs e))
+    → andThen (pick (eqb (pick wide 7 (pick past 2 (pick over 4 0))) 0) (done (v ∷ []) end) (refused (pick wide 7 (pick past 2 (pick over 4 0))) at i)) (λ vs e. done vs e)
     ≡ done (x ∷ []) e
     → (x ≡ v) × (over ≡ false)
 most-read true past over v x end at e i h = let z : _≡_ {A = ℕ} 0 1 = cc in absurd (omega arith)
@@ -106,20 +82,21 @@ pub took-most : (words : List ℕ) (end : ℕ) (c d : Cursor) (w m : ℕ) (bs : 
     → length bs ≡ end
     → words ≡ cut 32 64 (length words) bs
     → c .why ≡ 0
+    → suc (c .field) < 2 ^ 32
     → d .why ≡ 0
     → Took words end c Always (w ∷ []) (Most m) (d .number ∷ []) d
     → d .number ≤ m
 unfolding resume field
-took-most words end c d w m bs long cuts clear ok took =
-    let step = rw (eq-eqb _ _ clear, eq-eqb _ _ ok) at (took .step bs long cuts always [] 0 [] refl) in
+took-most words end c d w m bs long cuts clear few ok took =
+    let step = rw (eq-eqb _ _ clear, eq-eqb _ _ ok) at (took .step bs long cuts always [] [] refl few) in
     let v : ℕ = number (take w (drop (c .at) bs)) in
-    let most = most-read (exceeds (w ∷ []) (v ∷ [])) (ltb end (c .at + (w + 0))) (ltb m v) v (d .number) (c .at + (w + 0)) (c .at) (d .at) 0 step in
+    let most = most-read (exceeds (w ∷ []) (v ∷ [])) (ltb end (c .at + (w + 0))) (ltb m v) v (d .number) (c .at + (w + 0)) (c .at) (d .at) (c .field) step in
     let small : v ≤ m = ltb-false m v (most .1) in
     let same : d .number ≡ v = most .0 in
     omega arith
 
 -- An entry's tariff and pointer, read as one number where both are there and in their room.
-admitted-there : (c : Cursor) (w : ℕ) → c .why ≡ 0 → c .at + w ≤ 232 → record { at = c .at + w; why = 0; number = 0 } ≡ admitted c 232 w false 0 0
+admitted-there : (c : Cursor) (w : ℕ) → c .why ≡ 0 → c .at + w ≤ 232 → passes c 1 w 0 ≡ admitted c 232 w false 0 0
 admitted-there c w clear room = rw (eq-eqb _ _ clear, le-ltb _ _ room)
 
 pub test-all : (marks why at : ℕ) → (eqb (marks / 2) 3 && eqb why 0) && leb at 211 ≡ true → (marks / 2 ≡ 3) × (why ≡ 0) × (at ≤ 211)
@@ -137,10 +114,11 @@ pub rest-took : (words : List ℕ) (c : Cursor) (marks v : ℕ)
     → c .at ≤ 211
     → v ≡ numberAt words (c .at) 21
     → (v / 32 % 16 ≡ 13 → ⊥)
-    → RestTook words c marks (v / 32 / 4096 % 16 ∷ v / 32 / 16 % 256 ∷ v / 32 % 16 ∷ []) (v % 32) (record { at = c .at + 21; why = 0; number = 0 })
+    → RestTook words c marks (v / 32 / 4096 % 16 ∷ v / 32 / 16 % 256 ∷ v / 32 % 16 ∷ []) (v % 32)
+    (passes c 2 21 0)
 rest-took words c marks v ready full clear room reads defined =
     let u : ℕ = v / 32 % 65536 in
-    let between : Cursor = record { at = c .at + 16; why = 0; number = 0 } in
+    let between : Cursor = passes c 1 16 0 in
     let here : c .at + 0 ≡ c .at = omega arith in
     let behind : c .at + 21 ≡ c .at + 16 + 5 = omega arith in
     let own : v / 1 % 32 ≡ v % 32 = omega arith in
@@ -161,7 +139,7 @@ rest-took words c marks v ready full clear room reads defined =
           (eq-eqb (marks / 4 % 2) 1 (omega arith))
           (λ bs long cuts. sym own ∙ held-part words 232 c 21 v 16 5 0 bs ready (omega arith) refl reads long cuts (omega arith))
           refl
-          (rw behind (admitted-there between 5 refl (omega arith)));
+          (rw (behind, count-twice (c .field)) (admitted-there between 5 refl (omega arith)));
     }
 
 pub limit-few : (n : ℕ) → outside n ≡ false → n ≤ 8
@@ -173,12 +151,12 @@ limit-few n = go (ltb n 1) (ltb 8 n) refl
     go false false e h = ltb-false 8 n e
 
 -- The whole table: the count's row, some entries' and the others'.
-whole-rows : (n k : ℕ) → k ≤ 8 → contractList n ≡ (boxMost n 4 always ∷ rowsFrom 0 k) ++ rowsFrom k (8 - k)
+whole-rows : (n k : ℕ) → k ≤ 8 → contractList n ≡ (boxMost n 4 always ∷ rowsFrom entry 0 k) ++ rowsFrom entry k (8 - k)
 unfolding contractList
 whole-rows n k few =
     let all : k + (8 - k) ≡ 8 = omega arith in
     let here : 0 + k ≡ k = omega arith in
-    ap (λ (rs : List Row). boxMost n 4 always ∷ rs) (rw (all, here) at (rows-split 0 k (8 - k)))
+    ap (λ (rs : List Row). boxMost n 4 always ∷ rs) (rw (all, here) at (rows-split entry 0 k (8 - k)))
 
 module _ (bytes : List ℕ) (n : ℕ) (words : List ℕ)
     (whole : length bytes ≡ 29)
@@ -186,14 +164,14 @@ module _ (bytes : List ℕ) (n : ℕ) (words : List ℕ)
     (cuts : words ≡ cut 32 64 8 (spread 8 bytes)) where
   -- A refusal at the count or in an entry is the answer.
   pub line-refused : (k : ℕ) (all : List ℕ) (d : Cursor) → k ≤ 8
-      → Takes words 232 (boxMost n 4 always ∷ rowsFrom 0 k) [] start all d
+      → Takes words 232 (boxMost n 4 always ∷ rowsFrom entry 0 k) [] start all d
       → Ready words 232 d
       → (d .why ≡ 0 → ⊥)
-      → noList (refusal (d .why) (d .at)) ≡ listRead n bytes
+      → noList (met d) ≡ listRead n bytes
   line-refused k all d few line ready why =
       let taken : Taken words 232 (contractList n) [] start all d =
-      record { takes = rw (whole-rows n k few) (takes-append line (stopped ready why (rowsFrom k (8 - k)) all)); ready = ready } in
-      list-refused (λ vals. gotList (listOf vals)) noList (listFault n) (outside n) (contractList n) bytes words all d d d whole inside cuts taken
+      record { takes = rw (whole-rows n k few) (takes-append line (stopped ready why (rowsFrom entry k (8 - k)) all)); ready = ready } in
+      list-refused (λ vals. gotList (listOf vals)) noList (listFault n) (outside n) (contractList n) bytes words all d d d (omega (arith, list-rows n)) whole inside cuts taken
       (ended-refused words 232 d why)
       (rw (ne-eqb _ _ why))
       why
@@ -209,7 +187,7 @@ pub record Sofar (bytes : List ℕ) (n : ℕ) (words : List ℕ) (count : ℕ) (
   pub eight : length (l .entries) ≡ 8
   pub clear : c .why ≡ 0
   pub ready : Ready words 232 c
-  pub takes : Takes words 232 (boxMost n 4 always ∷ rowsFrom 0 k) [] start (count ∷ flat (take k (l .entries))) c
+  pub takes : Takes words 232 (boxMost n 4 always ∷ rowsFrom entry 0 k) [] start (count ∷ flat entryNumbers (take k (l .entries))) c
   pub others : drop k (l .entries) ≡ replicate (8 - k) none
   pub judges : Judges 3 n (bitmaps (take k (l .entries))) (pointers (take k (l .entries))) j
 
@@ -224,7 +202,7 @@ pub sofar-start : (bytes : List ℕ) (n : ℕ) (words : List ℕ) (j : Judged) (
 sofar-start bytes n words j head whole inside cuts took clear judges =
     let long : length (spread 8 bytes) ≡ 232 = rw (length-spread 8 bytes, whole) in
     let most : head .number ≤ n =
-    took-most words 232 start head 4 n (spread 8 bytes) long (rw (← eight-words bytes words cuts) cuts) refl clear took in
+    took-most words 232 start head 4 n (spread 8 bytes) long (rw (← eight-words bytes words cuts) cuts) refl (omega arith) clear took in
     let limit : n ≤ 8 = limit-few n inside in
     record {
       whole = whole;
@@ -245,21 +223,21 @@ module _ {bytes : List ℕ} {n : ℕ} {words : List ℕ} {count : ℕ} {l : Cont
   few-taken : k ≤ 8
   few-taken = omega (arith, so .few, so .upto)
 
-  seen-long : length (count ∷ flat (take k (l .entries))) ≡ 1 + 6 * k
-  seen-long = omega (arith, length-flat (take k (l .entries)), length-take-le k (l .entries) (rw (so .eight) few-taken))
+  seen-long : length (count ∷ flat entryNumbers (take k (l .entries))) ≡ 1 + 6 * k
+  seen-long = omega (arith, length-flat entryNumbers 6 (λ e. refl) (take k (l .entries)), length-take-le k (l .entries) (rw (so .eight) few-taken))
 
   -- An entry more.
   more-taken : (e : Entry) (d : Cursor)
       → EntryTook words (entry k) (1 + 6 * k) count c (entryNumbers e) d
-      → Takes words 232 (boxMost n 4 always ∷ rowsFrom 0 (k + 1)) [] start ((count ∷ flat (take k (l .entries))) ++ entryNumbers e) d
+      → Takes words 232 (boxMost n 4 always ∷ rowsFrom entry 0 (k + 1)) [] start ((count ∷ flat entryNumbers (take k (l .entries))) ++ entryNumbers e) d
   more-taken e d took =
-      rw (← rows-more k) (takes-append (so .takes) (took .takes (count ∷ flat (take k (l .entries))) seen-long refl))
+      rw (← rows-more entry k) (takes-append (so .takes) (took .takes (count ∷ flat entryNumbers (take k (l .entries))) seen-long refl))
 
   pub sofar-refused : (e : Entry) (d : Cursor)
       → EntryTook words (entry k) (1 + 6 * k) count c (entryNumbers e) d
       → k < count
       → (d .why ≡ 0 → ⊥)
-      → noList (refusal (d .why) (d .at)) ≡ listRead n bytes
+      → noList (met d) ≡ listRead n bytes
   sofar-refused e d took more why =
       line-refused bytes n words (so .whole) (so .inside) (so .cuts) (k + 1) _ d (omega (arith, so .few)) (more-taken e d took) (took .ready) why
 
@@ -274,8 +252,8 @@ module _ {bytes : List ℕ} {n : ℕ} {words : List ℕ} {count : ℕ} {l : Cont
       let long : length (take k (l .entries)) ≡ k = length-take-le k (l .entries) (omega arith) in
       let next : take (k + 1) (set (l .entries) k e) ≡ take k (l .entries) ++ (e ∷ []) = rw (add-one k) (take-suc-set (l .entries) k e inside) in
       let less : 8 - k ≡ suc (8 - (k + 1)) = omega (arith, so .few) in
-      let numbers : (count ∷ flat (take k (l .entries))) ++ entryNumbers e ≡ count ∷ flat (take (k + 1) (set (l .entries) k e)) =
-      rw next (sym (ap (λ (ns : List ℕ). count ∷ ns) (flat-append (take k (l .entries)) (e ∷ [])))) in
+      let numbers : (count ∷ flat entryNumbers (take k (l .entries))) ++ entryNumbers e ≡ count ∷ flat entryNumbers (take (k + 1) (set (l .entries) k e)) =
+      rw next (sym (ap (λ (ns : List ℕ). count ∷ ns) (flat-append entryNumbers (take k (l .entries)) (e ∷ [])))) in
       record {
         whole = so .whole;
         inside = so .inside;
@@ -296,16 +274,22 @@ module _ {bytes : List ℕ} {n : ℕ} {words : List ℕ} {count : ℕ} {l : Cont
 
   -- All of them.
   module _ (last : count ≤ k) where
-    pub sofar-taken : Taken words 232 (contractList n) [] start (numbersOf l) c
+    seen : List ℕ
+    seen = count ∷ flat entryNumbers (take k (l .entries))
+
+    skipped : Skips words 232 (rowsFrom entry k (8 - k)) seen c (seen ++ flat entryNumbers (replicate (8 - k) none))
+    unfolding seen
+    skipped = skip-entries (8 - k) k count seen seen-long refl last c (so .ready) (so .clear)
+
+    sofar-taken : Taken words 232 (contractList n) [] start (numbersOf l) (skipped .last)
+    unfolding seen
     sofar-taken =
-        let seen : List ℕ = count ∷ flat (take k (l .entries)) in
-        let skipped = skip-entries (so .ready) (so .clear) (8 - k) k count seen seen-long refl last in
-        let all : numbersOf l ≡ seen ++ flat (replicate (8 - k) none) =
+        let all : numbersOf l ≡ seen ++ flat entryNumbers (replicate (8 - k) none) =
         numbers-flat l (so .eight)
         ∙ rw (so .counts, ← so .others)
-        (ap (λ (es : List Entry). count ∷ flat es) (sym (take-append-drop k (l .entries)))
-        ∙ ap (λ (ns : List ℕ). count ∷ ns) (flat-append (take k (l .entries)) (drop k (l .entries)))) in
-        record { takes = rw (whole-rows n k few-taken, all) (takes-append (so .takes) skipped); ready = so .ready }
+        (ap (λ (es : List Entry). count ∷ flat entryNumbers es) (sym (take-append-drop k (l .entries)))
+        ∙ ap (λ (ns : List ℕ). count ∷ ns) (flat-append entryNumbers (take k (l .entries)) (drop k (l .entries)))) in
+        record { takes = rw (whole-rows n k few-taken, all) (takes-append (so .takes) (skipped .takes)); ready = skipped .ready }
 
     sofar-fault : j .fault ≡ listFault n (numbersOf l)
     sofar-fault =
@@ -316,19 +300,19 @@ module _ {bytes : List ℕ} {n : ℕ} {words : List ℕ} {count : ℕ} {l : Cont
       pub sofar-read : f .why ≡ 0 → gotList l ≡ listRead n bytes
       sofar-read ok =
           ap gotList (sym (list-of-numbers l (so .eight)))
-          ∙ list-read (λ vals. gotList (listOf vals)) noList (listFault n) (outside n) (contractList n) bytes words (numbersOf l) c e f
-          (so .whole) (so .inside) (so .cuts) sofar-taken ended (ruled ∙ rw sofar-fault) ok
+          ∙ list-read (λ vals. gotList (listOf vals)) noList (listFault n) (outside n) (contractList n) bytes words (numbersOf l) (skipped .last) e f
+          (omega (arith, list-rows n)) (so .whole) (so .inside) (so .cuts) sofar-taken (skips-ended e skipped (so .clear) ended) (ruled ∙ rw sofar-fault) ok
 
-      pub sofar-denied : (f .why ≡ 0 → ⊥) → noList (refusal (f .why) (f .at)) ≡ listRead n bytes
+      pub sofar-denied : (f .why ≡ 0 → ⊥) → noList (met f) ≡ listRead n bytes
       sofar-denied why =
-          list-refused (λ vals. gotList (listOf vals)) noList (listFault n) (outside n) (contractList n) bytes words (numbersOf l) c e f
-          (so .whole) (so .inside) (so .cuts) sofar-taken ended (ruled ∙ rw sofar-fault) why
+          list-refused (λ vals. gotList (listOf vals)) noList (listFault n) (outside n) (contractList n) bytes words (numbersOf l) (skipped .last) e f
+          (omega (arith, list-rows n)) (so .whole) (so .inside) (so .cuts) sofar-taken (skips-ended e skipped (so .clear) ended) (ruled ∙ rw sofar-fault) why
 
 -- What the writer's loop has come to before entry k, the count put before it.
 pub record Putting (l : ContractList) (xs : List ℕ) (b : Cursor) (ys : List ℕ) (c : Cursor) (k : ℕ) : Type 0 where
   pub upto : k ≤ 8
   pub ready : Drafted ys 232 c
-  pub puts : Puts 232 (numbersOf l) (rowsFrom 0 k) (l .count ∷ []) xs b (l .count ∷ flat (take k (l .entries))) ys c
+  pub puts : Puts 232 (numbersOf l) (rowsFrom entry 0 k) (l .count ∷ []) xs b (l .count ∷ flat entryNumbers (take k (l .entries))) ys c
 
 module _ {l : ContractList} {xs : List ℕ} {b : Cursor} {ys : List ℕ} {c : Cursor} {k : ℕ} (eight : length (l .entries) ≡ 8) (so : Putting l xs b ys c k) where
   pub putting-more : (d : Entry) (zs : List ℕ) (e : Cursor)
@@ -337,31 +321,31 @@ module _ {l : ContractList} {xs : List ℕ} {b : Cursor} {ys : List ℕ} {c : Cu
       → Putting l xs b zs e (k + 1)
   putting-more d zs e more gave =
       let own : Entry = getD (l .entries) k d in
-      let seen : List ℕ = l .count ∷ flat (take k (l .entries)) in
-      let rest : List ℕ = flat (drop (suc k) (l .entries)) in
+      let seen : List ℕ = l .count ∷ flat entryNumbers (take k (l .entries)) in
+      let rest : List ℕ = flat entryNumbers (drop (suc k) (l .entries)) in
       let inside : k < length (l .entries) = omega arith in
       let short : length (take k (l .entries)) ≡ k = length-take-le k (l .entries) (omega arith) in
-      let long : length seen ≡ 1 + 6 * k = omega (arith, length-flat (take k (l .entries)), short) in
+      let long : length seen ≡ 1 + 6 * k = omega (arith, length-flat entryNumbers 6 (λ e. refl) (take k (l .entries)), short) in
       let next : take (k + 1) (l .entries) ≡ take k (l .entries) ++ (own ∷ []) = rw (add-one k) (take-suc (l .entries) k d inside) in
-      let numbers : seen ++ entryNumbers own ≡ l .count ∷ flat (take (k + 1) (l .entries)) =
-      rw next (sym (ap (λ (ns : List ℕ). l .count ∷ ns) (flat-append (take k (l .entries)) (own ∷ [])))) in
+      let numbers : seen ++ entryNumbers own ≡ l .count ∷ flat entryNumbers (take (k + 1) (l .entries)) =
+      rw next (sym (ap (λ (ns : List ℕ). l .count ∷ ns) (flat-append entryNumbers (take k (l .entries)) (own ∷ [])))) in
       let parts : l .entries ≡ take k (l .entries) ++ (own ∷ drop (suc k) (l .entries)) = split-at (l .entries) k d inside in
       let all : numbersOf l ≡ seen ++ (entryNumbers own ++ rest) =
       numbers-flat l eight
-      ∙ ap (λ (es : List Entry). l .count ∷ flat es) parts
-      ∙ ap (λ (ns : List ℕ). l .count ∷ ns) (flat-append (take k (l .entries)) (own ∷ drop (suc k) (l .entries))) in
+      ∙ ap (λ (es : List Entry). l .count ∷ flat entryNumbers es) parts
+      ∙ ap (λ (ns : List ℕ). l .count ∷ ns) (flat-append entryNumbers (take k (l .entries)) (own ∷ drop (suc k) (l .entries))) in
       let split : drop (1 + 6 * k) (numbersOf l) ≡ entryNumbers own ++ rest = ap (drop (1 + 6 * k)) all ∙ drop-at seen (entryNumbers own ++ rest) (1 + 6 * k) long in
       record {
         upto = omega arith;
         ready = gave .ready;
-        puts = rw (← rows-more k, ← numbers) (puts-append (so .puts) (gave .puts (numbersOf l) seen rest long refl split));
+        puts = rw (← rows-more entry k, ← numbers) (puts-append (so .puts) (gave .puts (numbersOf l) seen rest long refl split));
       }
 
   -- All of them.
-  pub putting-all : 8 ≤ k → Puts 232 (numbersOf l) (rowsFrom 0 8) (l .count ∷ []) xs b (numbersOf l) ys c
+  pub putting-all : 8 ≤ k → Puts 232 (numbersOf l) (rowsFrom entry 0 8) (l .count ∷ []) xs b (numbersOf l) ys c
   putting-all last =
       let all : k ≡ 8 = omega (arith, so .upto) in
       let same : take 8 (l .entries) ≡ l .entries = take-all 8 (l .entries) (omega arith) in
-      let rows : rowsFrom 0 k ≡ rowsFrom 0 8 = ap (rowsFrom 0) all in
-      let numbers : l .count ∷ flat (take k (l .entries)) ≡ numbersOf l = rw (all, same) (sym (numbers-flat l eight)) in
+      let rows : rowsFrom entry 0 k ≡ rowsFrom entry 0 8 = ap (rowsFrom entry 0) all in
+      let numbers : l .count ∷ flat entryNumbers (take k (l .entries)) ≡ numbersOf l = rw (all, same) (sym (numbers-flat l eight)) in
       rw (rows, numbers) at (so .puts)

@@ -1,23 +1,24 @@
 -- Laws that both lists share: the line of an entry's takes or puts, and from the line of a whole list to the answer.
-use Prim.Native.Nat.{ℕ, suc, _-_}
+use Prim.Native.Nat.{ℕ, suc, _-_, _^_, _<_}
 use mathlib.Core.List.{List, [], _∷_, _++_, map, append-assoc}
 use mathlib.Core.Bool.{Bool, true, false}
 use mathlib.Core.Path.{_≡_, refl, sym, ap, _∙_}
 use lib.Dec.{eqb}
 use lib.ListN.{length, getD, take, drop, length-append, length-map}
 use lib.Seq.{getD-at, drop-drop, drop-append-seam, take-append-seam}
-use borrow.Author.Tests.{eq-eqb, ne-eqb, eqb-true}
+use borrow.Author.Tests.{eq-eqb, ne-eqb, eqb-true, eqb-false}
 use Rattle.bits.specs.Bits.{cut, spread, zeros}
 use Rattle.bits.proofs.Cutting.{length-spread, length-cut, cut-pad}
 use Rattle.rows.specs.Row.{Row, pick, above, bit}
-use Rattle.rows.specs.Walk.{Outcome, done, refused, andThen, read, write, frame, laidOn, slots}
-use Rattle.rows.specs.inner.Step.{said, Took, Gave, Ended, Packed}
+use Rattle.rows.specs.Walk.{Outcome, done, refused, andThen, frame, laidOn, slots}
+use Rattle.rows.specs.inner.Step.{Took, Gave, Ended, Packed}
 use Rattle.rows.specs.inner.Line.{start, Takes, _▸_, Taken, Puts, _◂_, tells}
 use Rattle.rows.specs.declared.Cursor.{Cursor}
 use Rattle.rows.specs.declared.Rule.{Rule}
 use Rattle.rows.specs.declared.When.the-variants.{Bit, Above}
 use Rattle.rows.proofs.Running.{takes-read, puts-write}
-use Rattle.records.specs.Answer.{refusal, accepted, denied, written, answered}
+use Rattle.records.specs.Answer.{refusal, refusalAt, denied, written, answered}
+use Rattle.records.specs.inner.Met.{met}
 use Rattle.records.proofs.Answering.{eight-words}
 use Rattle.lists.specs.Listing.{obeying, readList, writeList}
 use Rattle.lists.specs.inner.Steps.{obeyed}
@@ -72,8 +73,8 @@ obeys-tells : {A : Type 0} (fault : A → ℕ) (c : Cursor) (a : A)
 obeys-tells fault c a = go (eqb (c .why) 0) refl (eqb (fault a) 0) refl
   where
     go : (b : Bool) → eqb (c .why) 0 ≡ b → (t : Bool) → eqb (fault a) 0 ≡ t
-        → andThen (pick b (done a (c .at)) (refused (c .why) (c .at) 0)) (λ x end. obeying (fault x) x end)
-        ≡ tells (pick b (pick t c (record { at = fault a; why = 6; number = 0 })) c) a
+        → andThen (pick b (done a (c .at)) (refused (c .why) (c .at) (c .field - 1))) (λ x end. obeying (fault x) x end)
+        ≡ tells (pick b (pick t c (record { at = fault a; why = 6; field = 0; number = 0 })) c) a
     go true e true h = rw (e, h)
     go true e false h = rw h
     go false e t h = rw e
@@ -82,7 +83,7 @@ obeys-tells fault c a = go (eqb (c .why) 0) refl (eqb (fault a) 0) refl
 obeyed-clear : (c : Cursor) (k : ℕ) → obeyed c k .why ≡ 0 → c .why ≡ 0
 obeyed-clear c k = go (eqb (c .why) 0) refl
   where
-    go : (b : Bool) → eqb (c .why) 0 ≡ b → pick b (pick (eqb k 0) c (record { at = k; why = 6; number = 0 })) c .why ≡ 0 → c .why ≡ 0
+    go : (b : Bool) → eqb (c .why) 0 ≡ b → pick b (pick (eqb k 0) c (record { at = k; why = 6; field = 0; number = 0 })) c .why ≡ 0 → c .why ≡ 0
     go true e ok = eqb-true (c .why) 0 e
     go false e ok = ok
 
@@ -95,14 +96,8 @@ module _ {A : Type 0} (good : List ℕ → A) (bad : Refusal → A) (fault : Lis
   unfolding readList
   list-outside whole out = rw (eq-eqb _ _ whole, out)
 
-  -- An answer does not tell the row at fault.
-  answered-said : (o : Outcome (List ℕ))
-      → answered good bad (andThen o (λ vals end. obeying (fault vals) vals end))
-      ≡ answered good bad (andThen (said o) (λ vals end. obeying (fault vals) vals end))
-  answered-said (done vals end) = refl
-  answered-said (refused n at i) = refl
-
   module _ (words all : List ℕ) (d e f : Cursor)
+      (few : length rows < 2 ^ 32)
       (whole : length bytes ≡ 29)
       (inside : outside ≡ false)
       (cuts : words ≡ cut 32 64 8 (spread 8 bytes))
@@ -114,34 +109,27 @@ module _ {A : Type 0} (good : List ℕ → A) (bad : Refusal → A) (fault : Lis
     says =
         let long : length (spread 8 bytes) ≡ 232 = rw (length-spread 8 bytes, whole) in
         rw (eq-eqb _ _ whole, inside, ruled)
-        (answered-said (read rows (spread 8 bytes))
-        ∙ ap (λ (o : Outcome (List ℕ)). answered good bad (andThen o (λ vals end. obeying (fault vals) vals end)))
-        (takes-read words 232 (spread 8 bytes) long (rw (← eight-words bytes words cuts) cuts) rows all d e (taken .takes) ended)
+        (ap (λ (o : Outcome (List ℕ)). answered good bad (andThen o (λ vals end. obeying (fault vals) vals end)))
+        (takes-read words 232 (spread 8 bytes) long (rw (← eight-words bytes words cuts) cuts) rows all d e few (taken .takes) ended)
         ∙ ap (answered good bad) (obeys-tells fault e all))
 
     pub list-read : f .why ≡ 0 → good all ≡ readList good bad fault outside rows bytes
     list-read ok = sym (says ∙ rw (eq-eqb _ _ ok))
 
-    pub list-refused : (f .why ≡ 0 → ⊥) → bad (refusal (f .why) (f .at)) ≡ readList good bad fault outside rows bytes
+    pub list-refused : (f .why ≡ 0 → ⊥) → bad (met f) ≡ readList good bad fault outside rows bytes
     list-refused why = sym (says ∙ rw (ne-eqb _ _ why))
 
 module _ (fault : List ℕ → ℕ) (outside : Bool) (rows : List Row) (vals before : List ℕ) where
-  pub list-unwritten : (length before ≡ 29 → ⊥) → denied 1 0 before ≡ writeList fault outside rows vals before
+  pub list-unwritten : (length before ≡ 29 → ⊥) → denied (refusal 1 0) before ≡ writeList fault outside rows vals before
   unfolding writeList
   list-unwritten short = rw (ne-eqb _ _ short)
 
-  pub list-unwritten-outside : length before ≡ 29 → outside ≡ true → denied 11 0 before ≡ writeList fault outside rows vals before
+  pub list-unwritten-outside : length before ≡ 29 → outside ≡ true → denied (refusal 11 0) before ≡ writeList fault outside rows vals before
   unfolding writeList
   list-unwritten-outside whole out = rw (eq-eqb _ _ whole, out)
 
-  -- What is written does not depend on the row at fault.
-  written-said : (o : Outcome (List Bool))
-      → written before (andThen o (λ bs end. obeying (fault vals) bs end))
-      ≡ written before (andThen (said o) (λ bs end. obeying (fault vals) bs end))
-  written-said (done bs end) = refl
-  written-said (refused n at i) = refl
-
   module _ (xs all ys after : List ℕ) (d f : Cursor)
+      (few : length rows < 2 ^ 32)
       (whole : length before ≡ 29)
       (inside : outside ≡ false)
       (sized : length vals ≡ slots rows)
@@ -156,19 +144,22 @@ module _ (fault : List ℕ → ℕ) (outside : Bool) (rows : List Row) (vals bef
     unfolding bits writeList
     says-written =
         rw (eq-eqb _ _ whole, inside, ruled)
-        (written-said (write rows 232 vals)
-        ∙ ap (λ (o : Outcome (List Bool)). written before (andThen o (λ bs end. obeying (fault vals) bs end)))
-        (puts-write 232 rows vals xs all ys d sized empty puts .0)
+        (ap (λ (o : Outcome (List Bool)). written before (andThen o (λ bs end. obeying (fault vals) bs end)))
+        (puts-write 232 rows vals xs all ys d few sized empty puts .0)
         ∙ ap (written before) (obeys-tells (λ bs. fault vals) d (bits ++ zeros (232 - d .at))))
 
-    pub list-written : f .why ≡ 0 → accepted after ≡ writeList fault outside rows vals before
+    pub list-written : record { answer = met f; bytes = after } ≡ writeList fault outside rows vals before
     unfolding bits
-    list-written ok =
-        let clear : d .why ≡ 0 = obeyed-clear d (fault vals) (rw ruled at ok) in
-        let drawn : ys ≡ cut 32 32 (length xs) bits = puts-write 232 rows vals xs all ys d sized empty puts .1 clear in
-        let long : length ys ≡ length xs = ap length drawn ∙ length-cut 32 32 (length xs) bits in
-        let bytes : after ≡ cut 8 8 (length before) bits = packed .written ok bits (rw long drawn) in
-        sym (says-written ∙ rw (eq-eqb _ _ ok, cut-pad, ← bytes))
-
-    pub list-denied : (f .why ≡ 0 → ⊥) → denied (f .why) (f .at) after ≡ writeList fault outside rows vals before
-    list-denied why = sym (says-written ∙ rw (ne-eqb _ _ why, packed .kept why))
+    list-written = sym (says-written ∙ go (eqb (f .why) 0) refl)
+      where
+        go : (b : Bool) → eqb (f .why) 0 ≡ b
+            → written before (pick b (done (bits ++ zeros (232 - d .at)) (f .at)) (refused (f .why) (f .at) (f .field - 1)))
+            ≡ record { answer = pick b (refusal 0 0) (refusalAt (f .why) (f .at) (f .field - 1)); bytes = after }
+        go true e =
+            let ok : f .why ≡ 0 = eqb-true _ _ e in
+            let clear : d .why ≡ 0 = obeyed-clear d (fault vals) (rw ruled at ok) in
+            let drawn : ys ≡ cut 32 32 (length xs) bits = puts-write 232 rows vals xs all ys d few sized empty puts .1 clear in
+            let long : length ys ≡ length xs = ap length drawn ∙ length-cut 32 32 (length xs) bits in
+            let bytes : after ≡ cut 8 8 (length before) bits = packed .written ok bits (rw long drawn) in
+            rw (cut-pad, ← bytes)
+        go false e = rw (packed .kept (eqb-false _ _ e))

@@ -12,7 +12,7 @@ use Rattle.rows.specs.Row.{Row, pick}
 use Rattle.rows.specs.Walk.{Outcome, done, refused, andThen, read, write, slots}
 use Rattle.rows.proofs.RoundTrip.{read-slots}
 use Rattle.rows.proofs.Refusing.{read-refused, write-refused}
-use Rattle.records.specs.Answer.{Written, refusal, accepted, denied, written, answered}
+use Rattle.records.specs.Answer.{Written, refusal, refusalAt, accepted, denied, written, answered}
 use Rattle.lists.specs.Listing.{obeying, readList, writeList}
 use Rattle.records.specs.declared.Refusal.{Refusal}
 use Rattle.records.proofs.Inverse.{slots-read-write, slots-write-read}
@@ -58,9 +58,9 @@ module _ {L A : Type 0} (good : L → A) (bad : Refusal → A)
 
       go : (b : Bool) → eqb (length bytes) 29 ≡ b → (out : Bool) → (o : Outcome (List ℕ)) → read rows (spread 8 bytes) ≡ o
           → pick b (pick out (bad (refusal 11 0)) (answered (λ vals. good (valueOf vals)) bad (andThen o (λ vals end. obeying (fault vals) vals end)))) (bad (refusal 1 0)) ≡ good l
-          → pick out (denied 11 0 onto) (written onto (andThen (write rows 232 (numbersOf l)) (λ bs end. obeying (fault (numbersOf l)) bs end))) ≡ accepted bytes
+          → pick out (denied (refusal 11 0) onto) (written onto (andThen (write rows 232 (numbersOf l)) (λ bs end. obeying (fault (numbersOf l)) bs end))) ≡ accepted bytes
       go true w false (done vals end) r h = kept vals end (eqb-true _ _ w) r (eqb (fault vals) 0) refl h
-      go true w false (refused n at i) r h = absurd (read-refused rows (spread 8 bytes) r (apart (refusal n at) l h))
+      go true w false (refused n at i) r h = absurd (read-refused rows (spread 8 bytes) r (apart (refusalAt n at i) l h))
       go true w true o r h = absurd (let eleven : _≡_ {A = ℕ} 11 0 = apart (refusal 11 0) l h in omega arith)
       go false w out o r h = absurd (let one : _≡_ {A = ℕ} 1 0 = apart (refusal 1 0) l h in omega arith)
 
@@ -72,7 +72,7 @@ module _ {L A : Type 0} (good : L → A) (bad : Refusal → A)
   listing-write-read before after l sized back = go (eqb (length before) 29) refl outside
     where
       go : (b : Bool) → eqb (length before) 29 ≡ b → (out : Bool)
-          → pick b (pick out (denied 11 0 before) (written before (andThen (write rows 232 (numbersOf l)) (λ bs end. obeying (fault (numbersOf l)) bs end)))) (denied 1 0 before) ≡ accepted after
+          → pick b (pick out (denied (refusal 11 0) before) (written before (andThen (write rows 232 (numbersOf l)) (λ bs end. obeying (fault (numbersOf l)) bs end)))) (denied (refusal 1 0) before) ≡ accepted after
           → pick (eqb (length after) 29) (pick out (bad (refusal 11 0)) (answered (λ vals. good (valueOf vals)) bad (andThen (read rows (spread 8 after)) (λ vals end. obeying (fault vals) vals end)))) (bad (refusal 1 0)) ≡ good l
       go true w false h =
           let long : length before ≡ 29 = eqb-true _ _ w in

@@ -1,27 +1,27 @@
 -- Lists whose entries are sound: writing one is refused exactly where it takes more bits than a record has, and then with 2.
 use Prim.Native.Nat.{ℕ, zero, suc, _+_, _/_, _^_, _≤_, _<_}
-use mathlib.Core.List.{List, [], _∷_, _++_, map, append-assoc}
+use mathlib.Core.List.{List, [], _∷_, _++_, map}
 use mathlib.Core.Bool.{Bool, true, false}
 use mathlib.Core.Path.{_≡_, refl, sym, ap, subst, _∙_}
 use native.Mathlib.Omega.{arith}
 use lib.Dec.{eqb, ltb, leb}
-use borrow.Author.Tests.{lt-ltb, le-ltb, ltb-true, ltb-false, eq-eqb, ne-eqb}
-use lib.ListN.{length, getD, take, drop, drop-of-length-le, length-map, List·getD-map, List·getD-eq-default}
+use borrow.Author.Tests.{lt-ltb, le-ltb, ltb-true, ltb-false, leb-false, eq-eqb, ne-eqb}
+use lib.ListN.{length, getD, take, drop, replicate, drop-of-length-le, length-map, List·getD-map, List·getD-eq-default}
 use lib.Seq.{drop-cons, getD-take}
 use Rattle.rows.specs.Row.{pick, broken}
-use Rattle.rows.specs.Walk.{Outcome, done, refused, andThen, write, there, exceeds}
+use Rattle.rows.specs.Walk.{Outcome, done, refused, andThen, write, total, there, exceeds, firstPast, rankPast}
 use Rattle.rows.specs.declared.When.the-variants.{Bit, Above}
 use Rattle.rows.specs.declared.Rule.the-variants.{Tariff}
 use Rattle.rows.specs.table.BestContracts.{contractList}
-use Rattle.rows.proofs.Sound.{Sound, fieldsOn, verdict, read-sound, sound-written}
+use Rattle.rows.proofs.Sound.{Sound, fieldsOn, verdict, read-sound, sound-written, total-behind, past-behind}
 use Rattle.rows.proofs.RoundTrip.{read-slots}
 use Rattle.bits.specs.Bits.{odd, spread}
 use Rattle.records.proofs.Inverse.{from-all}
 use Rattle.lists.specs.List.{entryOf, entryAt, numbersOf, gotList, listFault, listRead, listWritten}
 use Rattle.lists.specs.Listing.{column, obeying, writeList}
 use Rattle.lists.specs.Rules.{faultAfter}
-use Rattle.records.specs.Answer.{refusal, named, written}
-use Rattle.lists.specs.Entries.{counted, listing, without, entriesFields, listFields, listBits, pastRecord}
+use Rattle.records.specs.Answer.{refusal, refusalAt, named, written}
+use Rattle.lists.specs.Entries.{counted, listing, without, entriesFields, listFields, listBits, overfull}
 use Rattle.lists.specs.declared.list.Entry.{Entry}
 use Rattle.lists.specs.declared.list.ContractList.{ContractList}
 use Rattle.lists.proofs.Entries.{length-counted, counted-listing}
@@ -143,18 +143,20 @@ full-map (e ∷ es) g = (g .0 .full, full-map es (g .1))
 
 -- The fields of an entry, counted or not, as the table has them, and others behind.
 abbrev ahead : Bool → ℕ → List ℕ → List ℕ
-ahead there bitmap rest =
-    pick there (3 ∷ []) []
-    ++ (pick (odd (bitmap / 1)) (24 ∷ []) [] ++ (pick (odd (bitmap / 2)) (16 ∷ []) [] ++ (pick (odd (bitmap / 4)) (5 ∷ []) [] ++ rest)))
+ahead there bitmap rest = pick there 3 0 ∷ pick (odd (bitmap / 1)) 24 0 ∷ pick (odd (bitmap / 2)) 16 0 ∷ pick (odd (bitmap / 4)) 5 0 ∷ rest
 
 -- Those of m entries from k on.
 abbrev fieldsFrom : List Entry → ℕ → ℕ → List ℕ
 fieldsFrom es k zero = []
 fieldsFrom es k (suc m) = ahead (ltb k (length es)) (getD es k (entryOf [] 0) .bitmap) (fieldsFrom es (suc k) m)
 
-own-fields : (es : List Entry) (k m : ℕ) → AllGood es → length es ≤ k + m → fieldsFrom es k m ≡ entriesFields (drop k es)
-own-fields es k zero good h = let past : length es ≤ k = omega arith in rw (drop-of-length-le es past)
-own-fields es k (suc m) good h = rw (own-fields es (suc k) m good (omega arith)) (go (ltb k (length es)) refl)
+-- Fields, and some of no bits behind them.
+abbrev Padded : List ℕ → List ℕ → Type 0
+Padded all ws = (z : ℕ) × (all ≡ ws ++ replicate z 0)
+
+own-fields : (es : List Entry) (k m : ℕ) → AllGood es → length es ≤ k + m → Padded (fieldsFrom es k m) (entriesFields (drop k es))
+own-fields es k zero good h = let past : length es ≤ k = omega arith in (0, rw (drop-of-length-le es past))
+own-fields es k (suc m) good h = go (ltb k (length es)) refl (own-fields es (suc k) m good (omega arith))
   where
     none : Entry
     none = entryOf [] 0
@@ -162,23 +164,41 @@ own-fields es k (suc m) good h = rw (own-fields es (suc k) m good (omega arith))
     bitmap : ℕ
     bitmap = getD es k none .bitmap
 
-    go : (t : Bool) → ltb k (length es) ≡ t → ahead t bitmap (entriesFields (drop (suc k) es)) ≡ entriesFields (drop k es)
-    go true e =
+    go : (t : Bool) → ltb k (length es) ≡ t → Padded (fieldsFrom es (suc k) m) (entriesFields (drop (suc k) es))
+        → Padded (ahead t bitmap (fieldsFrom es (suc k) m)) (entriesFields (drop k es))
+    go true e (z, rest) =
         let here : k < length es = ltb-true _ _ e in
         let full = good-at es k none good here .full in
         let all : bitmap / 1 ≡ bitmap = omega arith in
         let last : bitmap / 4 ≡ 1 = omega arith in
-        rw (drop-cons es k none here, all, full, last, append-assoc)
-    go false e =
+        (z, rw (drop-cons es k none here, all, full, last, rest))
+    go false e (z, rest) =
         let past : length es ≤ k = ltb-false _ _ e in
         let past′ : length es ≤ suc k = omega arith in
         let zero : bitmap ≡ 0 = ap (λ (x : Entry). x .bitmap) (List·getD-eq-default es none past) in
-        rw (zero, drop-of-length-le es past, drop-of-length-le es past′)
+        (suc (suc (suc (suc z))), rw (zero, drop-of-length-le es past, rest, drop-of-length-le es past′))
 
--- The fields of a list of good entries are those of its table.
-table-fields : (n : ℕ) (es : List Entry) → AllGood es → length es ≤ 8 → fieldsOn (contractList n) [] (numbersOf (listing es)) ≡ listFields es
+-- The fields of a list of good entries are those of its table, up to the entries that are not counted.
+table-fields : (n : ℕ) (es : List Entry) → AllGood es → length es ≤ 8 → Padded (fieldsOn (contractList n) [] (numbersOf (listing es))) (listFields es)
 unfolding contractList
-table-fields n es good few = ap (λ (ws : List ℕ). 4 ∷ ws) (own-fields es 0 8 good (omega arith))
+table-fields n es good few =
+    let (z, rest) = own-fields es 0 8 good (omega arith) in
+    (z, ap (λ (ws : List ℕ). 4 ∷ ws) rest)
+
+-- So they end past a record where those do, and at the same field.
+same-past : {B : Type 0} (answer : ℕ → ℕ → ℕ → B) (all ws : List ℕ) → Padded all ws
+    → pick (leb (total all) 232) (answer 0 0 0) (answer 2 (firstPast 232 all 0) (rankPast 232 all 0 0))
+    ≡ pick (leb (total ws) 232) (answer 0 0 0) (answer 2 (firstPast 232 ws 0) (rankPast 232 ws 0 0))
+same-past answer all ws (z, same) = rw (same, total-behind ws z) (go (leb (total ws) 232) refl)
+  where
+    go : (b : Bool) → leb (total ws) 232 ≡ b
+        → pick b (answer 0 0 0) (answer 2 (firstPast 232 (ws ++ replicate z 0) 0) (rankPast 232 (ws ++ replicate z 0) 0 0))
+        ≡ pick b (answer 0 0 0) (answer 2 (firstPast 232 ws 0) (rankPast 232 ws 0 0))
+    go true e = refl
+    go false e =
+        let past : 232 < total ws = leb-false _ _ e in
+        let behind = past-behind 232 ws z 0 0 (omega arith) (omega arith) in
+        rw (behind .0, behind .1)
 
 module _ (n : ℕ) (es : List Entry) (good : AllGood es) (apart : Apart n [] (map (λ (e : Entry). e .pointer) es)) (few : length es ≤ n) (most : n ≤ 8) where
   -- A list of good entries with pointers of their own keeps the rule,
@@ -210,14 +230,14 @@ module _ (n : ℕ) (es : List Entry) (good : AllGood es) (apart : Apart n [] (ma
 
   -- and so is written where its bits are within the record, and else refused with 2, at the first field that ends past it.
   pub written-or-two : (before : List ℕ) → length before ≡ 29 → 1 ≤ n
-      → listWritten n (listing es) before .answer ≡ pick (leb (listBits es) 232) (refusal 0 0) (refusal 2 (pastRecord es))
+      → listWritten n (listing es) before .answer ≡ pick (leb (listBits es) 232) (refusal 0 0) (overfull es)
   unfolding writeList
   written-or-two before long low =
-      let sound = sound-written refusal (contractList n) 232 (numbersOf (listing es)) is-sound in
+      let sound = sound-written refusalAt (contractList n) 232 (numbersOf (listing es)) is-sound in
       rw (eq-eqb _ _ long, le-ltb _ _ low, le-ltb _ _ most, keeps-rule)
-      (go (write (contractList n) 232 (numbersOf (listing es))) ∙ rw (table-fields n es good (omega arith)) at sound)
+      (go (write (contractList n) 232 (numbersOf (listing es))) ∙ sound ∙ same-past refusalAt _ (listFields es) (table-fields n es good (omega arith)))
     where
-      go : (o : Outcome (List Bool)) → written before (andThen o (λ bs end. obeying 0 bs end)) .answer ≡ verdict refusal o
+      go : (o : Outcome (List Bool)) → written before (andThen o (λ bs end. obeying 0 bs end)) .answer ≡ verdict refusalAt o
       go (done bs end) = refl
       go (refused m p j) = refl
 

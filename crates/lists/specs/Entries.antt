@@ -5,11 +5,12 @@ use lib.Dec.{eqb, ltb}
 use lib.ListN.{length, set, take}
 use Rattle.bits.specs.Bits.{odd}
 use Rattle.rows.specs.Row.{pick}
-use Rattle.rows.specs.Walk.{total, firstPast}
+use Rattle.rows.specs.Walk.{total, firstPast, rankPast}
 use Rattle.rows.specs.Change.{placeOf}
 use Rattle.rows.specs.table.BestContracts.{contractList}
-use Rattle.records.specs.Answer.{named}
+use Rattle.records.specs.Answer.{refusalAt, named}
 use Rattle.records.specs.Order.{Attempt, got, stopped}
+use Rattle.records.specs.declared.Refusal.{Refusal}
 use Rattle.lists.specs.List.{entryOf, numbersOf}
 use Rattle.lists.specs.declared.list.Entry.{Entry}
 use Rattle.lists.specs.declared.list.ContractList.{ContractList}
@@ -62,9 +63,10 @@ abbrev pub appended : Entry → ContractList → ContractList
 appended e l =
     pick (ltb (l .count) 8) (record { count = l .count + 1; entries = set (l .entries) (l .count) e }) l
 
--- The widths of an entry's fields: bitmap, network where the bitmap's element [0] says so, tariff (4, 8 and 4 bits), pointer.
+-- The widths of an entry's fields: bitmap, network (0 where the bitmap's element [0] does not mark it), tariff (4, 8 and 4
+-- bits), pointer.
 abbrev pub entryFields : Entry → List ℕ
-entryFields e = 3 ∷ (pick (odd (e .bitmap)) (24 ∷ []) [] ++ (16 ∷ 5 ∷ []))
+entryFields e = 3 ∷ pick (odd (e .bitmap)) 24 0 ∷ 16 ∷ 5 ∷ []
 
 abbrev pub entriesFields : List Entry → List ℕ
 entriesFields [] = []
@@ -78,6 +80,6 @@ listFields es = 4 ∷ entriesFields es
 abbrev pub listBits : List Entry → ℕ
 listBits es = total (listFields es)
 
--- Where it takes more than a record's 232, the place of the first field that ends past them.
-abbrev pub pastRecord : List Entry → ℕ
-pastRecord es = firstPast 232 (listFields es) 0
+-- Where it takes more than a record's 232: 2 at the first field that ends past them, by its place and its rank.
+abbrev pub overfull : List Entry → Refusal
+overfull es = refusalAt 2 (firstPast 232 (listFields es) 0) (rankPast 232 (listFields es) 0 0)

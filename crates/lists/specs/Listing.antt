@@ -38,5 +38,5 @@ readList good bad fault outside rows bytes =
 unfoldable pub writeList : (List ℕ → ℕ) → Bool → List Row → List ℕ → List ℕ → Written
 writeList fault outside rows vals before =
     pick (eqb (length before) 29)
-    (pick outside (denied 11 0 before) (written before (andThen (write rows 232 vals) (λ bs end. obeying (fault vals) bs end))))
-    (denied 1 0 before)
+    (pick outside (denied (refusal 11 0) before) (written before (andThen (write rows 232 vals) (λ bs end. obeying (fault vals) bs end))))
+    (denied (refusal 1 0) before)

@@ -11,7 +11,7 @@ ghost use Rattle.rows.specs.table.BestContracts.{entry, contractList};
 ghost use Rattle.lists.specs.inner.Steps.{EntryTook, RestTook, EntryGave};
 ghost use Rattle.lists.specs.List.{entryNumbers, numbersOf, outside, listFault, listRead, listWritten, noList};
 ghost use Rattle.lists.specs.Entries.{counted, listing, withPriority, appended, without};
-ghost use Rattle.records.specs.Answer.{refusal, Written};
+ghost use Rattle.records.specs.Answer.{Written};
 use crate::rules;
 use crate::rules::COUNT_BITS;
 use crate::rules::Judged;
@@ -221,16 +221,16 @@ pub fn read(bytes: &[u8], n: u32) -> ListRead
     ensures { λ r. ⌜ r ≡ listRead n (now (bytes .entry)) ⌝ }
 {
     if bytes.len() != BYTES {
-        return refused(1, 0);
+        return refused(Refusal::WRONG_LENGTH);
     }
     if outside(n) {
-        return refused(11, 0);
+        return refused(Refusal::OUTSIDE_LIMITS);
     }
     let mut words = [0u64; 8];
     bits::words(bytes, &mut words);
     let head = take::at_most(&words, BITS, Cursor::START, When::Always, COUNT_BITS, n);
     if head.why != 0 {
-        return refused(head.why, head.at);
+        return refused(Refusal::met(head));
     }
     let count = head.number;
     let mut list = ContractList::NONE;
@@ -243,7 +243,7 @@ pub fn read(bytes: &[u8], n: u32) -> ListRead
         let entry = taken.entry;
         last = taken.last;
         if last.why != 0 {
-            return refused(last.why, last.at);
+            return refused(Refusal::met(last));
         }
         list.entries[k as usize] = entry;
         k += 1;
@@ -251,7 +251,7 @@ pub fn read(bytes: &[u8], n: u32) -> ListRead
     }
     let end = rules::obeyed(take::end(&words, BITS, last), judged.fault);
     if end.why != 0 {
-        return refused(end.why, end.at);
+        return refused(Refusal::met(end));
     }
     ListRead {
         refusal: Refusal::NONE,
@@ -259,11 +259,11 @@ pub fn read(bytes: &[u8], n: u32) -> ListRead
     }
 }
 
-fn refused(number: u32, place: u32) -> ListRead
-    ensures { λ r. ⌜ r ≡ noList (refusal number place) ⌝ }
+fn refused(refusal: Refusal) -> ListRead
+    ensures { λ r. ⌜ r ≡ noList refusal ⌝ }
 {
     ListRead {
-        refusal: Refusal { number, place },
+        refusal,
         list: ContractList::NONE,
     }
 }
@@ -311,11 +311,7 @@ fn take_rest(words: &[u64], c: Cursor, marks: u32) -> RestTaken
                 kind: tariff / ListTariff::PRIORITIES % ListTariff::KINDS,
                 priority,
                 pointer: v % Entry::POINTERS,
-                last: Cursor {
-                    at: c.at + Entry::REST_BITS,
-                    why: 0,
-                    number: 0,
-                },
+                last: c.passed(2, Entry::REST_BITS, 0),
             };
         }
     }
@@ -380,13 +376,7 @@ pub fn write(bytes: &mut [u8], n: u32, list: ContractList) -> Refusal
     let end = put_list(&mut draft, n, list);
     let last = rules::obeyed(end, at_fault(list, n));
     put::end(&draft, last, bytes);
-    if last.why == 0 {
-        return Refusal::NONE;
-    }
-    Refusal {
-        number: last.why,
-        place: last.at,
-    }
+    Refusal::met(last)
 }
 
 fn put_entry(draft: &mut [u64], c: Cursor, count: u32, k: u32, e: Entry) -> Cursor

@@ -82,6 +82,7 @@ pub fn obeyed(c: Cursor, fault: u32) -> Cursor
     Cursor {
         at: fault,
         why: 6,
+        field: 0,
         number: 0,
     }
 }

@@ -6,7 +6,7 @@ ghost use lib.ListN.{length};
 ghost use Rattle.rows.specs.inner.Step.{Ready, Drafted};
 ghost use Rattle.rows.specs.inner.Line.{start, Taken, Puts};
 ghost use Rattle.rows.specs.table.Special.{entry, specialList};
-ghost use Rattle.records.specs.Answer.{refusal, Written};
+ghost use Rattle.records.specs.Answer.{Written};
 ghost use Rattle.lists.specs.inner.Steps.{EntryTook, EntryGave};
 ghost use Rattle.lists.specs.Special.{entryNumbers, numbersOf, specialFault, specialRead, specialWritten, noSpecial};
 use crate::rules;
@@ -78,10 +78,10 @@ pub fn read(bytes: &[u8], s: u32) -> SpecialRead
     ensures { λ r. ⌜ r ≡ specialRead s (now (bytes .entry)) ⌝ }
 {
     if bytes.len() != BYTES {
-        return refused(1, 0);
+        return refused(Refusal::WRONG_LENGTH);
     }
     if SpecialList::MOST < s {
-        return refused(11, 0);
+        return refused(Refusal::OUTSIDE_LIMITS);
     }
     let mut words = [0u64; 8];
     bits::words(bytes, &mut words);
@@ -90,7 +90,7 @@ pub fn read(bytes: &[u8], s: u32) -> SpecialRead
     let end = take::end(&words, BITS, taken.last);
     let last = rules::obeyed(end, at_fault(list, s));
     if last.why != 0 {
-        return refused(last.why, last.at);
+        return refused(Refusal::met(last));
     }
     SpecialRead {
         refusal: Refusal::NONE,
@@ -98,11 +98,11 @@ pub fn read(bytes: &[u8], s: u32) -> SpecialRead
     }
 }
 
-fn refused(number: u32, place: u32) -> SpecialRead
-    ensures { λ r. ⌜ r ≡ noSpecial (refusal number place) ⌝ }
+fn refused(refusal: Refusal) -> SpecialRead
+    ensures { λ r. ⌜ r ≡ noSpecial refusal ⌝ }
 {
     SpecialRead {
-        refusal: Refusal { number, place },
+        refusal,
         list: SpecialList::NONE,
     }
 }
@@ -136,22 +136,18 @@ fn take_list(words: &[u64]) -> ListTaken
     let most = SpecialList::MOST;
     let head = take::at_most(words, BITS, Cursor::START, When::Always, COUNT_BITS, most);
     let count = head.number;
-    let first = take_entry(words, head, count, 0);
-    let second = take_entry(words, first.last, count, 1);
-    let third = take_entry(words, second.last, count, 2);
-    let fourth = take_entry(words, third.last, count, 3);
-    let e0 = first.entry;
-    let e1 = second.entry;
-    let e2 = third.entry;
-    let e3 = fourth.entry;
-    let last = fourth.last;
-    ListTaken {
-        list: SpecialList {
-            count,
-            entries: [e0, e1, e2, e3],
-        },
-        last,
+    let mut list = SpecialList::NONE;
+    list.count = count;
+    let mut last = head;
+    let mut k = 0;
+    while k < 4 {
+        let taken = take_entry(words, last, count, k as u32);
+        let entry = taken.entry;
+        last = taken.last;
+        list.entries[k] = entry;
+        k += 1;
     }
+    ListTaken { list, last }
 }
 
 // The number of the first entry that breaks the list rule, or 0.
@@ -179,13 +175,7 @@ pub fn write(bytes: &mut [u8], s: u32, list: SpecialList) -> Refusal
     let end = put_list(&mut draft, list);
     let last = rules::obeyed(end, at_fault(list, s));
     put::end(&draft, last, bytes);
-    if last.why == 0 {
-        return Refusal::NONE;
-    }
-    Refusal {
-        number: last.why,
-        place: last.at,
-    }
+    Refusal::met(last)
 }
 
 fn put_entry(draft: &mut [u64], c: Cursor, count: u32, k: u32, e: SpecialEntry) -> Cursor

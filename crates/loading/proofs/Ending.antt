@@ -107,11 +107,11 @@ pub record Card (o : Order) (list file : List ℕ) (lent : Lent) : Type 0 where
 
 module _ (o : Order) (list file : List ℕ) (lent : Lent) where
   -- Where nothing is refused unread, lengths and limits agree.
-  pub unread-none : unread o (lengthsOf list file lent) ≡ 0 → Card o list file lent
+  pub unread-none : unread o (lengthsOf list file lent) .number ≡ 0 → Card o list file lent
   unread-none = go (lengths o (lengthsOf list file lent)) refl (limits o (length (lent .journal) / 29)) refl
     where
       go : (a : Bool) → lengths o (lengthsOf list file lent) ≡ a → (b : Bool) → limits o (length (lent .journal) / 29) ≡ b
-          → _≡_ {A = ℕ} (pick a (pick b 0 11) 1) 0 → Card o list file lent
+          → (pick {A = Refusal} a (pick b (refusal 0 0) (refusal 11 0)) (refusal 1 0)) .number ≡ 0 → Card o list file lent
       go true l true k h =
           let (list-ok, file-ok, records-ok, new-ok) = of-six (eqb (length list) 29) (eqb (length file) (29 * o .n)) (eqb (length (lent .special)) 29) (eqb (length (lent .journal) % 29) 0) (eqb (length (lent .records)) (29 * o .s)) (eqb (length (lent .new)) 29) l in
           let (high, within, entry-ok) = of-ten (leb 1 (o .n)) (leb (o .n) 8) (leb (o .c) 4) (leb (o .c) (o .n)) (leb (o .s) 4) (leb (length (lent .journal) / 29) 15) (leb (o .day) 16383) (leb (o .minute) 1439) (leb (o .hours) 255) (entryFits o) k in
@@ -129,14 +129,13 @@ module _ (o : Order) (list file : List ℕ) (lent : Lent) where
       go true l false k h = absurd (omega arith)
       go false l b k h = absurd (omega arith)
 
-  pub refused-unread : (number : ℕ) → number ≡ unread o (lengthsOf list file lent) → (number ≡ 0 → ⊥)
-      → loaded (refusal number 0) 0 list file ≡ loading o list file lent
+  pub refused-unread : (r : Refusal) → r ≡ unread o (lengthsOf list file lent) → (r .number ≡ 0 → ⊥) → loaded r 0 list file ≡ loading o list file lent
   unfolding loading finding
-  refused-unread number same other = go (lengths o (lengthsOf list file lent)) (limits o (length (lent .journal) / 29)) same
+  refused-unread r same other = go (lengths o (lengthsOf list file lent)) (limits o (length (lent .journal) / 29)) same
     where
-      go : (a b : Bool) → number ≡ pick a (pick b 0 11) 1
-          → loaded (refusal number 0) 0 list file ≡ settled o list file (lent .new) (needs a 1 (needs b 11 (placing o list lent)))
-      go true true e = absurd (other e)
+      go : (a b : Bool) → r ≡ pick a (pick b (refusal 0 0) (refusal 11 0)) (refusal 1 0)
+          → loaded r 0 list file ≡ settled o list file (lent .new) (needs a 1 (needs b 11 (placing o list lent)))
+      go true true e = absurd (other (ap (λ (x : Refusal). x .number) e))
       go true false e = rw e
       go false b e = rw e
 

@@ -17,7 +17,7 @@ use Rattle.records.specs.Order.{Attempt, got, stopped, next, needs, recordFrom}
 use Rattle.records.specs.declared.Refusal.{Refusal}
 use Rattle.records.proofs.Coming.{ComesTo, fine, faulty, comes-within, stops, written-taken}
 use Rattle.lists.specs.List.{gotList, listRead, listWritten}
-use Rattle.lists.specs.Entries.{counted, listing, attempted, without, listBits, pastRecord}
+use Rattle.lists.specs.Entries.{counted, listing, attempted, without, listBits, overfull}
 use Rattle.lists.specs.declared.list.Entry.{Entry}
 use Rattle.lists.specs.declared.list.ContractList.{ContractList}
 use Rattle.lists.proofs.Kept.{Apart, list-kept, list-got, one-each, apart-afterwards}
@@ -127,7 +127,7 @@ contract-got (Refused x) c h = apart (sym h)
 
 -- How the steps before the last end: with a refusal; with all read, and no pointer named; with a pointer.
 data Ended (o : Order) (list file : List ℕ) (lent : Lent) : Attempt Found → Type 0 where
-  halted : (r : Refusal) → Refusing (r .number) readings → Ended o list file lent (stopped r)
+  halted : (r : Refusal) → Refusing (r .number) (r .field) readings → Ended o list file lent (stopped r)
   nowhere : (a : AllRead o list file lent) → namedBy a ≡ 0 → Ended o list file lent (stopped (refusal 9 0))
   somewhere : (a : AllRead o list file lent) → (namedBy a ≡ 0 → ⊥) → Ended o list file lent (got (record { entries = counted (a .l); pointer = namedBy a }))
 
@@ -150,8 +150,8 @@ finding-ended o list file lent =
         → (w : Attempt Contract) → contractGot (contractRead (o .kind) (lent .new)) ≡ w → Stops w
         → Ended o list file lent
         (needs a 1 (needs b 11 (next t (λ l. next u (λ blocked. next w (λ new. found (counted l) (place blocked (o .n) (o .c) (o .counter) (counted l))))))))
-    go false ea b eb t et st u eu su w ew sw = halted (refusal 1 0) (record { some = λ z. omega arith; listed = refl })
-    go true ea false eb t et st u eu su w ew sw = halted (refusal 11 0) (record { some = λ z. omega arith; listed = refl })
+    go false ea b eb t et st u eu su w ew sw = halted (refusal 1 0) (record { some = λ z. omega arith; listed = refl; named = refl })
+    go true ea false eb t et st u eu su w ew sw = halted (refusal 11 0) (record { some = λ z. omega arith; listed = refl; named = refl })
     go true ea true eb (stopped r) et st u eu su w ew sw = halted r st
     go true ea true eb (got l) et st (stopped r) eu su w ew sw = halted r su
     go true ea true eb (got l) et st (got blocked) eu su (stopped r) ew sw = halted r sw
@@ -190,7 +190,7 @@ new-good o p fits few =
 
 -- The list afterwards is written, or it does not fit.
 list-or-two : {o : Order} {list file : List ℕ} {lent : Lent} (a : AllRead o list file lent) → (namedBy a ≡ 0 → ⊥)
-    → listAfter a .answer ≡ pick (leb (listBits (entriesAfter a)) 232) (refusal 0 0) (refusal 2 (pastRecord (entriesAfter a)))
+    → listAfter a .answer ≡ pick (leb (listBits (entriesAfter a)) 232) (refusal 0 0) (overfull (entriesAfter a))
 list-or-two {o} {list} a some =
     let p : ℕ = namedBy a in
     let es : List Entry = counted (a .l) in
@@ -207,10 +207,10 @@ list-or-two {o} {list} a some =
     written-or-two (o .n) (afterwards (newEntry o p) es) good apart few eight list (a .card .list-long) (kept .room .0)
 
 -- And loading answers accordingly.
-answers : (list file : List ℕ) (p at : ℕ) (w : Written) (later : List ℕ) (fits : Bool) → w .answer ≡ pick fits (refusal 0 0) (refusal 2 at)
-    → bothOrNeither list file p w later .answer ≡ pick fits (record { refusal = refusal 0 0; pointer = p }) (record { refusal = refusal 2 at; pointer = 0 })
-answers list file p at w later true e = rw e
-answers list file p at w later false e = rw e
+answers : (list file : List ℕ) (p : ℕ) (es : List Entry) (w : Written) (later : List ℕ) (fits : Bool) → w .answer ≡ pick fits (refusal 0 0) (overfull es)
+    → bothOrNeither list file p w later .answer ≡ pick fits (record { refusal = refusal 0 0; pointer = p }) (record { refusal = overfull es; pointer = 0 })
+answers list file p es w later true e = rw e
+answers list file p es w later false e = rw e
 
 -- Loading that was accepted: the pointer is the one that the rule names on what was read; the contract list is written with the
 -- old entries in order, without any of that pointer, then the new one; the contract file has the new record at its place.
@@ -240,16 +240,16 @@ module _ (o : Order) (list file : List ℕ) (lent : Lent) where
       Comes : Outcome → Type 0
       Comes x = ComesTo loadedAs (unloaded list file) (1 ∷ 11 ∷ 2 ∷ 3 ∷ 4 ∷ 5 ∷ 6 ∷ 9 ∷ []) x
 
-      stores : (p at : ℕ) (w : Written) (after : List ℕ) (fits : Bool) → w .answer ≡ pick fits (refusal 0 0) (refusal 2 at)
+      stores : (p : ℕ) (es : List Entry) (w : Written) (after : List ℕ) (fits : Bool) → w .answer ≡ pick fits (refusal 0 0) (overfull es)
           → Comes (bothOrNeither list file p w after)
-      stores p at w after true e = rw e (fine (p, w .bytes, after))
-      stores p at w after false e = rw e (stops (refusal 2 at) refl refl)
+      stores p es w after true e = rw e (fine (p, w .bytes, after))
+      stores p es w after false e = rw e (stops (overfull es) refl refl refl)
 
       go : {t : Attempt Found} → Ended o list file lent t → Comes (settled o list file (lent .new) t)
       go (halted r why) = comes-within (faulty r why) refl
-      go (nowhere a none) = stops (refusal 9 0) refl refl
+      go (nowhere a none) = stops (refusal 9 0) refl refl refl
       go (somewhere a some) =
-          stores (namedBy a) (pastRecord (entriesAfter a)) (listAfter a) (placed (namedBy a) (lent .new) file) (leb (listBits (entriesAfter a)) 232) (list-or-two a some)
+          stores (namedBy a) (entriesAfter a) (listAfter a) (placed (namedBy a) (lent .new) file) (leb (listBits (entriesAfter a)) 232) (list-or-two a some)
 
   -- Refused, both are as they were, and the pointer is 0.
   pub refused-unchanged : (out .answer .refusal .number ≡ 0 → ⊥) → (out .list ≡ list) × (out .file ≡ file) × (out .answer .pointer ≡ 0)
@@ -332,10 +332,10 @@ module _ (o : Order) (list file : List ℕ) (lent : Lent) where
   unfolding loading
   nine-none = go (finding-ended o list file lent)
     where
-      zero-or-two : (fits : Bool) (p at : ℕ) (x : Loaded)
-          → x ≡ pick fits (record { refusal = refusal 0 0; pointer = p }) (record { refusal = refusal 2 at; pointer = 0 }) → x .refusal .number ≡ 9 → ⊥
-      zero-or-two true p at x e h = let z : _≡_ {A = ℕ} 0 9 = rw e at h in omega arith
-      zero-or-two false p at x e h = let z : _≡_ {A = ℕ} 2 9 = rw e at h in omega arith
+      zero-or-two : (fits : Bool) (p : ℕ) (es : List Entry) (x : Loaded)
+          → x ≡ pick fits (record { refusal = refusal 0 0; pointer = p }) (record { refusal = overfull es; pointer = 0 }) → x .refusal .number ≡ 9 → ⊥
+      zero-or-two true p es x e h = let z : _≡_ {A = ℕ} 0 9 = rw e at h in omega arith
+      zero-or-two false p es x e h = let z : _≡_ {A = ℕ} 2 9 = rw e at h in omega arith
 
       go : {t : Attempt Found} → Ended o list file lent t → settled o list file (lent .new) t .answer .refusal .number ≡ 9
           → (a : AllRead o list file lent) × (namedBy a ≡ 0)
@@ -343,20 +343,20 @@ module _ (o : Order) (list file : List ℕ) (lent : Lent) where
       go (nowhere a none) h = (a, none)
       go (somewhere a some) h =
           let fits : Bool = leb (listBits (entriesAfter a)) 232 in
-          absurd (zero-or-two fits _ _ _ (answers list file (namedBy a) (pastRecord (entriesAfter a)) (listAfter a) (placed (namedBy a) (lent .new) file) fits (list-or-two a some)) h)
+          absurd (zero-or-two fits (namedBy a) (entriesAfter a) _ (answers list file (namedBy a) (entriesAfter a) (listAfter a) (placed (namedBy a) (lent .new) file) fits (list-or-two a some)) h)
 
   pub none-nine : (a : AllRead o list file lent) → namedBy a ≡ 0 → out ≡ loaded (refusal 9 0) 0 list file
   unfolding loading
   none-nine a none = rw (read-found a, eq-eqb _ _ none)
 
   -- Where all reads and the rule names a pointer, it is accepted exactly if the list afterwards takes at most a record's 232 bits;
-  -- else it is 2, at the first field of that list that ends past them.
+  -- else it is 2, at the first field of that list that ends past them, which it names.
   pub loads-or-two : (a : AllRead o list file lent) → (namedBy a ≡ 0 → ⊥)
       → out .answer
       ≡ pick (leb (listBits (entriesAfter a)) 232)
       (record { refusal = refusal 0 0; pointer = namedBy a })
-      (record { refusal = refusal 2 (pastRecord (entriesAfter a)); pointer = 0 })
+      (record { refusal = overfull (entriesAfter a); pointer = 0 })
   unfolding loading
   loads-or-two a some =
       rw (read-found a, ne-eqb _ _ some)
-      (answers list file (namedBy a) (pastRecord (entriesAfter a)) _ _ (leb (listBits (entriesAfter a)) 232) (list-or-two a some))
+      (answers list file (namedBy a) (entriesAfter a) _ _ (leb (listBits (entriesAfter a)) 232) (list-or-two a some))

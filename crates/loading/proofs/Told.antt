@@ -35,7 +35,7 @@ readings = 1 ∷ 11 ∷ 2 ∷ 3 ∷ 4 ∷ 5 ∷ 6 ∷ []
 -- Steps that come to a value or to one of them.
 abbrev pub Stops : {A : Type 0} → Attempt A → Type 0
 Stops (got a) = Unit {0}
-Stops (stopped r) = Refusing (r .number) readings
+Stops (stopped r) = Refusing (r .number) (r .field) readings
 
 pub no-refusal : {A : Type 0} (t : Attempt A) → Stops t → refusalOf t .number ≡ 0 → (a : A) × (t ≡ got a)
 no-refusal (got a) told z = (a, refl)
@@ -47,12 +47,12 @@ next-stops (stopped r) more first then = first
 
 -- A step that takes an answer for what it comes to.
 comes-stops : {A B C : Type 0} {good : A → B} {bad : Refusal → B} (attempt : B → Attempt C) → ((a : A) → Stops (attempt (good a)))
-    → ((r : Refusal) → Refusing (r .number) readings → Stops (attempt (bad r)))
+    → ((r : Refusal) → Refusing (r .number) (r .field) readings → Stops (attempt (bad r)))
     → {ns : List ℕ} {b : B} → ComesTo good bad ns b → within ns readings ≡ true
     → Stops (attempt b)
 comes-stops attempt takes refuses (fine a) all = takes a
 comes-stops attempt takes refuses {ns} (faulty r why) all =
-    refuses r (record { some = why .some; listed = among-within (r .number) ns readings all (why .listed) })
+    refuses r (record { some = why .some; listed = among-within (r .number) ns readings all (why .listed); named = why .named })
 
 pub events-stop : (n : ℕ) (file : List ℕ) (i : ℕ) → Stops (events n file i)
 events-stop zero file i = tt

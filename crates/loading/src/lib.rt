@@ -62,17 +62,17 @@ impl Order {
 
     pub const MOST_HOURS: u32 = 255;
 
-    // The refusal that needs no reading: 1, 11, or 0 for none.
-    fn refused_unread(self, lent: Lengths) -> u32
+    // The refusal that needs no reading: 1, 11, or none.
+    fn refused_unread(self, lent: Lengths) -> Refusal
         ensures { λ r. ⌜ r ≡ unread self lent ⌝ }
     {
         if !self.agrees(lent) {
-            return 1;
+            return Refusal::WRONG_LENGTH;
         }
         if !self.in_limits(lent.journal / BYTES) {
-            return 11;
+            return Refusal::OUTSIDE_LIMITS;
         }
-        0
+        Refusal::NONE
     }
 
     fn agrees(self, lent: Lengths) -> bool
@@ -164,9 +164,9 @@ pub fn load(
         records: records.len(),
         new: new.len(),
     };
-    let number = order.refused_unread(lent);
-    if number != 0 {
-        return Loaded::refused(Refusal { number, place: 0 });
+    let unread = order.refused_unread(lent);
+    if unread.number != 0 {
+        return Loaded::refused(unread);
     }
     let read = list::read(list, order.n);
     if read.refusal.number != 0 {

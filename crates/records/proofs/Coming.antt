@@ -10,40 +10,41 @@ use Rattle.bits.specs.Bits.{spread}
 use Rattle.bits.proofs.Cutting.{length-spread}
 use Rattle.rows.specs.Row.{Row, pick, among}
 use Rattle.rows.specs.Walk.{Outcome, done, refused, read, write}
-use Rattle.rows.specs.Refusing.{readNumbers, writeNumbers}
+use Rattle.rows.specs.Refusing.{readNumbers, writeNumbers, mayName}
 use Rattle.rows.proofs.Refusing.{Refusing, Refuses, refuses-behind, within, among-within, read-number, write-number}
-use Rattle.records.specs.Answer.{Written, refusal, accepted, denied, written, answered, readRecord, writeRecord, areaLength, readArea, writeArea}
+use Rattle.records.specs.Answer.{Written, refusal, refusalAt, accepted, denied, written, answered, readRecord, writeRecord, areaLength, readArea, writeArea}
 use Rattle.records.specs.declared.Refusal.{Refusal}
 
--- The answer of a value, or that of a refusal with one of some numbers.
+-- The answer of a value, or that of a refusal with one of some numbers, which names a field only if it is a field's own.
 pub data ComesTo {A B : Type 0} (good : A → B) (bad : Refusal → B) (ns : List ℕ) : B → Type 0 where
   fine : (a : A) → ComesTo good bad ns (good a)
-  faulty : (r : Refusal) → Refusing (r .number) ns → ComesTo good bad ns (bad r)
+  faulty : (r : Refusal) → Refusing (r .number) (r .field) ns → ComesTo good bad ns (bad r)
 
 -- A writing that is refused: the bytes are as they were.
 abbrev pub unwritten : List ℕ → Refusal → Written
-unwritten before r = denied (r .number) (r .place) before
+unwritten before r = denied r before
 
 module _ {A B : Type 0} {good : A → B} {bad : Refusal → B} where
   pub comes-within : {ms ns : List ℕ} {b : B} → ComesTo good bad ms b → within ms ns ≡ true → ComesTo good bad ns b
   comes-within (fine a) all = fine a
-  comes-within {ms} {ns} (faulty r why) all = faulty r (record { some = why .some; listed = among-within (r .number) ms ns all (why .listed) })
+  comes-within {ms} {ns} (faulty r why) all = faulty r (record { some = why .some; listed = among-within (r .number) ms ns all (why .listed); named = why .named })
 
   pub either : {ns : List ℕ} {b c : B} (t : Bool) → ComesTo good bad ns b → ComesTo good bad ns c → ComesTo good bad ns (pick t b c)
   either true p q = p
   either false p q = q
 
-  pub stops : {ns : List ℕ} (r : Refusal) → eqb (r .number) 0 ≡ false → among (r .number) ns ≡ true → ComesTo good bad ns (bad r)
-  stops r some listed = faulty r (record { some = eqb-false _ _ some; listed = listed })
+  pub stops : {ns : List ℕ} (r : Refusal) → eqb (r .number) 0 ≡ false → among (r .number) ns ≡ true → mayName (r .number) (r .field) ≡ true
+      → ComesTo good bad ns (bad r)
+  stops r some listed named = faulty r (record { some = eqb-false _ _ some; listed = listed; named = named })
 
   pub answered-comes : (valueOf : List ℕ → A) {ns : List ℕ} (o : Outcome (List ℕ)) → Refuses ns o
       → ComesTo good bad ns (answered (λ vals. good (valueOf vals)) bad o)
   answered-comes valueOf (done vals end) why = fine (valueOf vals)
-  answered-comes valueOf (refused n at i) why = faulty (refusal n at) why
+  answered-comes valueOf (refused n at i) why = faulty (refusalAt n at i) why
 
 pub written-comes : (before : List ℕ) {ns : List ℕ} (o : Outcome (List Bool)) → Refuses ns o → ComesTo accepted (unwritten before) ns (written before o)
 written-comes before (done bs end) why = fine _
-written-comes before (refused n at i) why = faulty (refusal n at) why
+written-comes before (refused n at i) why = faulty (refusalAt n at i) why
 
 -- A table that is read from bytes refuses with its own numbers for so much room.
 pub bytes-number : (rows : List Row) (bytes : List ℕ) {room : ℕ} → 8 * length bytes ≡ room → Refuses (readNumbers room rows) (read rows (spread 8 bytes))
@@ -55,7 +56,7 @@ module _ {A B : Type 0} {good : A → B} {bad : Refusal → B} (valueOf : List �
       → ComesTo good bad (1 ∷ readNumbers room rows) (pick t (answered (λ vals. good (valueOf vals)) bad (read rows (spread 8 bytes))) (bad (refusal 1 0)))
   room-comes true room long =
       answered-comes valueOf (read rows (spread 8 bytes)) (refuses-behind (1 ∷ []) (readNumbers room rows) (read rows (spread 8 bytes)) (bytes-number rows bytes (long refl)))
-  room-comes false room long = stops (refusal 1 0) refl refl
+  room-comes false room long = stops (refusal 1 0) refl refl refl
 
   pub record-comes : ComesTo good bad (1 ∷ readNumbers 232 rows) (readRecord (λ vals. good (valueOf vals)) bad rows bytes)
   unfolding readRecord
@@ -67,10 +68,10 @@ module _ {A B : Type 0} {good : A → B} {bad : Refusal → B} (valueOf : List �
 
 -- Writing one likewise.
 module _ (rows : List Row) (vals before : List ℕ) where
-  onto-comes : (t : Bool) (room : ℕ) → ComesTo accepted (unwritten before) (1 ∷ writeNumbers room rows) (pick t (written before (write rows room vals)) (denied 1 0 before))
+  onto-comes : (t : Bool) (room : ℕ) → ComesTo accepted (unwritten before) (1 ∷ writeNumbers room rows) (pick t (written before (write rows room vals)) (denied (refusal 1 0) before))
   onto-comes t room =
       either t (written-comes before (write rows room vals) (refuses-behind (1 ∷ []) (writeNumbers room rows) (write rows room vals) (write-number rows room vals)))
-      (stops (refusal 1 0) refl refl)
+      (stops (refusal 1 0) refl refl refl)
 
   pub record-write-comes : ComesTo accepted (unwritten before) (1 ∷ writeNumbers 232 rows) (writeRecord rows vals before)
   unfolding writeRecord

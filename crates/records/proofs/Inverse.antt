@@ -15,7 +15,7 @@ use Rattle.rows.specs.Row.{Row, pick}
 use Rattle.rows.specs.Walk.{Outcome, done, refused, read, write, slots}
 use Rattle.rows.proofs.RoundTrip.{read-write, write-read, write-length}
 use Rattle.rows.proofs.Refusing.{write-refused}
-use Rattle.records.specs.Answer.{Written, refusal, accepted, denied, written, answered, readRecord, writeRecord, from, named}
+use Rattle.records.specs.Answer.{Written, refusal, refusalAt, accepted, denied, written, answered, readRecord, writeRecord, from, named}
 use Rattle.records.specs.declared.Refusal.{Refusal}
 
 -- The values of a type are named views of a table's slots, as far as those were read from so much room.
@@ -92,7 +92,7 @@ module _ {A B : Type 0} (good : A → B) (bad : Refusal → B)
       go true l (done vals end) r h =
           let long : length bytes ≡ 29 = eqb-true (length bytes) 29 l in
           rw (same (valueOf vals) a h) at (view-read-write view bytes onto (rw long) small (whole ∙ sym long) r)
-      go true l (refused n at i) r h = absurd (apart (refusal n at) a h)
+      go true l (refused n at i) r h = absurd (apart (refusalAt n at i) a h)
       go false l o r h = absurd (apart (refusal 1 0) a h)
 
   -- A record that was written, read again, is the same value.
@@ -103,7 +103,7 @@ module _ {A B : Type 0} (good : A → B) (bad : Refusal → B)
   record-write-read before after a = go (eqb (length before) 29) refl
     where
       go : (b : Bool) → eqb (length before) 29 ≡ b
-          → pick b (written before (write rows 232 (numbersOf a))) (denied 1 0 before) ≡ accepted after
+          → pick b (written before (write rows 232 (numbersOf a))) (denied (refusal 1 0) before) ≡ accepted after
           → pick (eqb (length after) 29) (answered (λ vals. good (valueOf vals)) bad (read rows (spread 8 after))) (bad (refusal 1 0)) ≡ good a
       go true l h =
           let long : length before ≡ 29 = eqb-true (length before) 29 l in

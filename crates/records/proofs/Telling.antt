@@ -1,7 +1,7 @@
 -- What an answer tells is the whole of it: answers that tell the same are equal.
 use mathlib.Core.Path.{_≡_, refl, sym, ap, _∙_}
 use Rattle.rows.specs.Row.{pick}
-use Rattle.records.specs.Answer.{Told, refusal}
+use Rattle.records.specs.Answer.{Told, refusalAt}
 use Rattle.records.specs.Environment.{environmentOf, environmentTold}
 use Rattle.records.specs.Event.{eventOf, eventTold}
 use Rattle.records.specs.declared.environment.EnvironmentRead.{EnvironmentRead}
@@ -14,7 +14,7 @@ pub told-one : {A : Type 0} (tell : A → Told) (back : Told → A) → ((a : A)
 told-one tell back returned a b same = sym (returned a) ∙ ap back same ∙ returned b
 
 abbrev environment-back : Told → EnvironmentRead
-environment-back t = pick (t .holds) (environment.Read (environmentOf (t .values))) (environment.Refused (refusal (t .number) (t .place)))
+environment-back t = pick (t .holds) (environment.Read (environmentOf (t .values))) (environment.Refused (refusalAt (t .number) (t .place) (t .field)))
 
 environment-returned : (r : EnvironmentRead) → environment-back (environmentTold r) ≡ r
 environment-returned (environment.Read e) = refl
@@ -24,7 +24,7 @@ pub environment-one : (r s : EnvironmentRead) → environmentTold r ≡ environm
 environment-one = told-one environmentTold environment-back environment-returned
 
 abbrev event-back : Told → EventRead
-event-back t = pick (t .holds) (event.Read (eventOf (t .values))) (event.Refused (refusal (t .number) (t .place)))
+event-back t = pick (t .holds) (event.Read (eventOf (t .values))) (event.Refused (refusalAt (t .number) (t .place) (t .field)))
 
 event-returned : (r : EventRead) → event-back (eventTold r) ≡ r
 event-returned (event.Read e) = refl

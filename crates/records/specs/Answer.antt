@@ -1,4 +1,4 @@
--- What operations answer, and what they leave in the bytes lent to them. Document 01, "Refusal numbers".
+-- What operations answer, and what they leave in the bytes lent to them. Document 01, "Refusal numbers"; 02, Q-2.
 use Prim.Native.Nat.{ℕ, zero, suc, _*_}
 use mathlib.Core.Bool.{Bool, true, false}
 use mathlib.Core.List.{List, [], _∷_}
@@ -9,8 +9,13 @@ use Rattle.rows.specs.Row.{Row, pick}
 use Rattle.rows.specs.Walk.{Outcome, done, refused, read, write}
 use Rattle.records.specs.declared.Refusal.{Refusal}
 
+-- A refusal in a walk: its number, its place, and the field at fault, by its rank in the table.
+abbrev pub refusalAt : ℕ → ℕ → ℕ → Refusal
+refusalAt n at i = record { number = n; place = at; field = i }
+
+-- One that names no field.
 abbrev pub refusal : ℕ → ℕ → Refusal
-refusal n at = record { number = n; place = at }
+refusal n at = refusalAt n at 0
 
 -- The answer of an operation that writes, and the later contents of the bytes lent to it.
 pub record Written : Type 0 where
@@ -22,33 +27,34 @@ abbrev pub accepted : List ℕ → Written
 accepted bytes = record { answer = refusal 0 0; bytes = bytes }
 
 -- Refused, the bytes are as they were.
-abbrev pub denied : ℕ → ℕ → List ℕ → Written
-denied n at before = record { answer = refusal n at; bytes = before }
+abbrev pub denied : Refusal → List ℕ → Written
+denied r before = record { answer = r; bytes = before }
 
 -- Bits that are written are all of the bytes.
 abbrev pub written : List ℕ → Outcome (List Bool) → Written
 written before (done bs end) = accepted (cut 8 8 (length before) bs)
-written before (refused n at i) = denied n at before
+written before (refused n at i) = denied (refusalAt n at i) before
 
 -- The answer to a reading: a value made of the slots, or the refusal.
 abbrev pub answered : {A : Type 0} → (List ℕ → A) → (Refusal → A) → Outcome (List ℕ) → A
 answered good bad (done vals end) = good vals
-answered good bad (refused n at i) = bad (refusal n at)
+answered good bad (refused n at i) = bad (refusalAt n at i)
 
--- An answer that is an enum, in document 01's terms: whether it is the case that holds a value, the refusal's number and place, and
--- the numbers of the value.
+-- An answer that is an enum, in document 01's terms: whether it is the case that holds a value, the refusal's number, place and
+-- field, and the numbers of the value.
 pub record Told : Type 0 where
   pub holds : Bool
   pub number : ℕ
   pub place : ℕ
+  pub field : ℕ
   pub values : List ℕ
 
 abbrev pub toldValue : List ℕ → Told
-toldValue values = record { holds = true; number = 0; place = 0; values = values }
+toldValue values = record { holds = true; number = 0; place = 0; field = 0; values = values }
 
 -- Refused, everything else is zero: so many numbers.
 abbrev pub toldRefusal : ℕ → Refusal → Told
-toldRefusal n r = record { holds = false; number = r .number; place = r .place; values = replicate n 0 }
+toldRefusal n r = record { holds = false; number = r .number; place = r .place; field = r .field; values = replicate n 0 }
 
 -- Reading a table from a record, which is 29 bytes: 1 else.
 unfoldable pub readRecord : {A : Type 0} → (List ℕ → A) → (Refusal → A) → List Row → List ℕ → A
@@ -58,7 +64,7 @@ readRecord good bad rows bytes =
 -- Writing a table to a record.
 unfoldable pub writeRecord : List Row → List ℕ → List ℕ → Written
 writeRecord rows vals before =
-    pick (eqb (length before) 29) (written before (write rows 232 vals)) (denied 1 0 before)
+    pick (eqb (length before) 29) (written before (write rows 232 vals)) (denied (refusal 1 0) before)
 
 -- An area is 1 to 4 records handed over together.
 unfoldable pub areaLength : ℕ → Bool
@@ -72,7 +78,7 @@ readArea good bad rows bytes =
 -- Writing a table to an area.
 unfoldable pub writeArea : List Row → List ℕ → List ℕ → Written
 writeArea rows vals before =
-    pick (areaLength (length before)) (written before (write rows (8 * length before) vals)) (denied 1 0 before)
+    pick (areaLength (length before)) (written before (write rows (8 * length before) vals)) (denied (refusal 1 0) before)
 
 -- The n elements of a list from i on, by name; d past the end.
 abbrev pub named : {A : Type 0} → A → ℕ → ℕ → List A → List A

@@ -37,7 +37,7 @@ environmentOf vals =
       «card_status» = getD vals 9 0;
     }
 
--- The cases of the answer, each by its number, its place and its values.
+-- The cases of the answer, each by its number, its place, its field and its values.
 abbrev pub environmentTold : EnvironmentRead → Told
 environmentTold (Read e) = toldValue (numbersOf e)
 environmentTold (Refused r) = toldRefusal 10 r

@@ -88,7 +88,7 @@ eventOf vals =
       direction = getD vals 35 0;
     }
 
--- The cases of the answer, each by its number, its place and its values.
+-- The cases of the answer, each by its number, its place, its field and its values.
 abbrev pub eventTold : EventRead → Told
 eventTold (Read e) = toldValue (numbersOf e)
 eventTold (Refused r) = toldRefusal 36 r

@@ -1,42 +1,71 @@
 // The records of a card as values: each structure is read from lent bytes and written to them.
 ghost use mathlib.Core.Path.{_≡_};
 ghost use Rattle.records.specs.Order.{recordAt};
+ghost use Rattle.records.specs.inner.Met.{met};
+use rows::Cursor;
 
 pub mod environment;
 pub mod event;
 
-// Why an operation refused, and where: 0 and 0 where it accepted.
+// Why an operation refused, and where: zeros where it accepted.
 pub struct Refusal {
     pub number: u32,
     pub place: u32,
+    pub field: u32, // the rank of the field at fault in card order, present or not, where one is
 }
 
 impl Refusal {
-    // The ones that have no place in a record.
+    // The ones that have no place in a record and name no field.
     pub const NONE: Refusal = Refusal {
         number: 0,
         place: 0,
+        field: 0,
     };
 
     pub const WRONG_LENGTH: Refusal = Refusal {
         number: 1,
         place: 0,
+        field: 0,
+    };
+
+    pub const UNKNOWN_TYPE: Refusal = Refusal {
+        number: 3,
+        place: 0,
+        field: 0,
     };
 
     pub const NONE_ELIGIBLE: Refusal = Refusal {
         number: 8,
         place: 0,
+        field: 0,
     };
 
     pub const NO_POSITION: Refusal = Refusal {
         number: 9,
         place: 0,
+        field: 0,
     };
 
     pub const OUTSIDE_LIMITS: Refusal = Refusal {
         number: 11,
         place: 0,
+        field: 0,
     };
+
+    // What a walk met: none where it came to its end.
+    pub fn met(c: Cursor) -> Refusal
+        ensures { λ r. ⌜ r ≡ met c ⌝ }
+    {
+        if c.why == 0 {
+            return Refusal::NONE;
+        }
+        let field = if c.field == 0 { 0 } else { c.field - 1 };
+        Refusal {
+            number: c.why,
+            place: c.at,
+            field,
+        }
+    }
 }
 
 // The bytes and the bits of a record.

@@ -13,10 +13,10 @@ use borrow.Author.Tests.{eq-eqb, ne-eqb, lt-ltb, ltb-true}
 use Rattle.bits.specs.Bits.{bitsOf, cut, number}
 use Rattle.bits.proofs.Spelling.{length-bits-of, number-append, number-bits-of, bits-of-number}
 use Rattle.rows.proofs.Boxes.{length-there, laid-behind, length-laid}
-use Rattle.rows.proofs.Stepping.{Clear, admit-step, admitted-clear, admitted-within, admitted-none, admitted-past, broken-none, total-none, total-same}
+use Rattle.rows.proofs.Stepping.{Clear, admit-step, admitted-clear, admitted-within, admitted-counted, admitted-none, admitted-past, broken-none, total-none, total-same}
 use Rattle.rows.specs.Row.{pick, holds, broken}
 use Rattle.rows.specs.Walk.{total, there, exceeds, slotsOf, laidOn}
-use Rattle.rows.specs.inner.Step.{admitted, resume, Drafted, Gave, Lays, LaidAll}
+use Rattle.rows.specs.inner.Step.{stays, settled, admitted, resume, Drafted, Gave, Lays, LaidAll}
 use Rattle.rows.specs.declared.Cursor.{Cursor}
 use Rattle.rows.specs.declared.When.{When}
 use Rattle.rows.specs.declared.Rule.{Rule}
@@ -37,10 +37,11 @@ gave xs ys room c t ws rule vs W wide n d ready long sized width exceeding ruled
     record {
       ready = record { within = rw is (admitted-within c room W wide n 0 (ready .within)); longer = rw long (ready .longer) };
       long = long;
-      step = λ vals k rs i seen told gives.
+      counted = rw is (admitted-counted c room W wide n 0);
+      step = λ vals k rs seen told gives small.
           let us : slotsOf vals (c .at) (length seen) (there t ws) ≡ vs = rw (length-there t ws) gives in
           rw (is, width)
-          (admit-step room (slotsOf vals) c t ws rule vs wide n 0 k rs i seen told
+          (admit-step room (slotsOf vals) c t ws rule vs wide n 0 k rs seen told small
           (ap (exceeds (there t ws)) us ∙ sym exceeding)
           (λ inside. ap (broken rule) us ∙ sym ruled)
           (λ inside ok. us));
@@ -76,7 +77,8 @@ gave-refused xs room c t ws rule vs ready why =
     record {
       ready = ready;
       long = refl;
-      step = λ vals k rs i seen told gives. rw (ne-eqb _ _ why);
+      counted = omega arith;
+      step = λ vals k rs seen told gives small. rw (ne-eqb _ _ why);
       before = λ ok. ok;
       laid = λ ok. absurd (why ok);
     }
@@ -102,7 +104,7 @@ pub gave-absent : (xs : List ℕ) (room : ℕ) (c : Cursor) (t : When) (ws : Lis
     → c .why ≡ 0
     → holds t ≡ false
     → wide ≡ exceeds (map (λ (w : ℕ). 0) ws) vs
-    → d ≡ record { at = c .at; why = pick wide 7 0; number = 0 }
+    → d ≡ settled c 0 (pick wide 7 0) 0
     → Gave xs xs room c t ws rule vs d
 gave-absent xs room c t ws rule vs wide d ready sized clear absent exceeding is =
     gave xs xs room c t ws rule vs 0 wide (broken rule vs) d ready refl sized
@@ -111,7 +113,7 @@ gave-absent xs room c t ws rule vs wide d ready sized clear absent exceeding is 
     (λ ok out at drafted. rw (absent, laid-none out ws vs) drafted)
   where
     go : (b : Bool) → b ≡ exceeds (map (λ (w : ℕ). 0) ws) vs
-        → record { at = c .at; why = pick b 7 0; number = 0 } ≡ admitted c room 0 b (broken rule vs) 0
+        → settled c 0 (pick b 7 0) 0 ≡ admitted c room 0 b (broken rule vs) 0
     go true e = rw (eq-eqb _ _ clear)
     go false e = rw (ap (broken rule) (zeros-fit ws vs sized (sym e)) ∙ broken-none rule ws) (admitted-none c room (ready .within) clear)
 
@@ -121,7 +123,7 @@ pub gave-past : (xs : List ℕ) (room : ℕ) (c : Cursor) (t : When) (w : ℕ) (
     → room < w
     → c .why ≡ 0
     → holds t ≡ true
-    → d ≡ record { at = c .at; why = 2; number = 0 }
+    → d ≡ stays c 2 0
     → Gave xs xs room c t (w ∷ []) Any (0 ∷ []) d
 gave-past xs room c t w d ready wide clear present is =
     gave xs xs room c t (w ∷ []) Any (0 ∷ []) w false 0 d ready refl refl

@@ -12,3 +12,4 @@ pub mod Wide
 pub mod Putting
 pub mod Refusing
 pub mod Sound
+pub mod Naming

@@ -10,21 +10,22 @@ use lib.ListN.{length, getD, drop}
 use Rattle.bits.specs.Bits.{odd, leading}
 use Rattle.rows.specs.Row.{Row, pick, among, told, holds, broken}
 use Rattle.rows.specs.Walk.{Outcome, done, refused, andThen, total, boxesOf, exceeds, Source, walk, boxesAt, slotsOf, ending, read, write}
-use Rattle.rows.specs.Refusing.{widest, ruledBy, ruled, walkNumbers, readNumbers, writeNumbers}
+use Rattle.rows.specs.Refusing.{widest, ruledBy, ruled, walkNumbers, readNumbers, writeNumbers, ofFields, mayName}
 use Rattle.rows.specs.declared.Rule.{Rule}
 use Rattle.rows.specs.declared.Rule.the-variants.{Any, Most, Tariff, NoSecond}
 use Rattle.rows.proofs.Boxes.{numbers-fit}
 use Rattle.rows.proofs.Walked.{walk-row}
 
--- The number of a refusal is not 0, and is one of some.
-pub record Refusing (n : ℕ) (ns : List ℕ) : Type 0 where
+-- The number of a refusal is not 0, and is one of some; its rank is 0 where it is none of a field's own.
+pub record Refusing (n i : ℕ) (ns : List ℕ) : Type 0 where
   pub some : n ≡ 0 → ⊥
   pub listed : among n ns ≡ true
+  pub named : mayName n i ≡ true
 
 -- An outcome is a value, or a refusal with one of some numbers.
 abbrev pub Refuses : {A : Type 0} → List ℕ → Outcome A → Type 0
 Refuses ns (done a end) = Unit {0}
-Refuses ns (refused n at i) = Refusing n ns
+Refuses ns (refused n at i) = Refusing n i ns
 
 pub refuses-then : {A B : Type 0} (ns : List ℕ) (o : Outcome A) (next : A → ℕ → Outcome B) → Refuses ns o
     → ((a : A) (end : ℕ) → Refuses ns (next a end))
@@ -67,6 +68,13 @@ broken-ruled r vs ns = go r
     go Tariff some = one 4 (eqb (getD vs 2 0) 13) some
     go NoSecond some = one 3 (odd (getD vs 0 0 / 2)) some
 
+-- Which is a field's own.
+rule-field : (r : Rule) → within (ruledBy r ++ []) ofFields ≡ true
+rule-field Any = refl
+rule-field (Most m) = refl
+rule-field Tariff = refl
+rule-field NoSecond = refl
+
 -- An absent field is no wider than a present one.
 narrow : (t : Bool) (ws : List ℕ) → total (pick t ws (map (λ (w : ℕ). 0) ws)) ≤ total ws
 narrow true ws = omega arith
@@ -75,7 +83,7 @@ narrow false (w ∷ ws) = let rest = narrow false ws in omega arith
 
 pub refuses-behind : {A : Type 0} (ms ns : List ℕ) (o : Outcome A) → Refuses ns o → Refuses (ms ++ ns) o
 refuses-behind ms ns (done a end) h = tt
-refuses-behind ms ns (refused n at i) h = record { some = h .some; listed = among-behind n ms ns (h .listed) }
+refuses-behind ms ns (refused n at i) h = record { some = h .some; listed = among-behind n ms ns (h .listed); named = h .named }
 
 -- A walk refuses with one of some numbers, if 7 is one of them where a number is too wide, 2 where the rows can be wider than the
 -- room, and what their rules refuse with.
@@ -107,15 +115,22 @@ module _ (room : ℕ) (from : Source) (ns : List ℕ) (wide : (at n : ℕ) (ws :
 
       last : (t : Bool) → eqb own 0 ≡ t → Refuses ns rest → Refuses ns (pick t rest (refused own at i))
       last true e more = more
-      last false e more = record { some = eqb-false _ _ e; listed = rules own (broken-ruled (r .rule) vs (ruled rs) (eqb-false _ _ e)) }
+      last false e more =
+          let some : own ≡ 0 → ⊥ = eqb-false _ _ e in
+          record {
+            some = some;
+            listed = rules own (broken-ruled (r .rule) vs (ruled rs) some);
+            named = rw (among-within own (ruledBy (r .rule) ++ []) ofFields (rule-field (r .rule)) (broken-ruled (r .rule) vs [] some));
+          }
 
       go : (w : Bool) → exceeds ws vs ≡ w → (q : Bool) → ltb room end ≡ q → Refuses ns rest
           → Refuses ns (pick (eqb (pick w 7 (pick q 2 own)) 0) rest (refused (pick w 7 (pick q 2 own)) at i))
-      go true e q f more = record { some = λ z. omega arith; listed = wide at (length seen) ws e }
+      go true e q f more = record { some = λ z. omega arith; listed = wide at (length seen) ws e; named = refl }
       go false e true f more =
           record {
             some = λ z. omega arith;
             listed = past (omega (arith, ltb-true room end f, narrow (holds (told (r .cond) seen)) (r .boxes)));
+            named = refl;
           }
       go false e false f more = last (eqb own 0) refl more
 
@@ -142,7 +157,7 @@ read-number rows bs =
   where
     go : (t : Bool) (vals : List ℕ) (end place : ℕ) → Refuses (readNumbers (length bs) rows) (pick t (done vals end) (refused 5 place 0))
     go true vals end place = tt
-    go false vals end place = record { some = λ z. omega arith; listed = refl }
+    go false vals end place = record { some = λ z. omega arith; listed = refl; named = refl }
 
 -- and a writing with no other than these.
 pub write-number : (rows : List Row) (room : ℕ) (vals : List ℕ) → Refuses (writeNumbers room rows) (write rows room vals)

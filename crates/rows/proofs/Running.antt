@@ -1,60 +1,47 @@
 -- A straight line of takes is a reading, and one of puts a writing. A reader's or writer's proof lists its steps, a line a
 -- row; the laws here take that list to the meaning of the table.
-use Prim.Native.Nat.{ℕ, suc, _+_, _-_}
-use mathlib.Core.List.{List, [], _∷_, _++_, append-nil, append-assoc}
+use Prim.Native.Nat.{ℕ, _+_, _-_, _^_, _<_}
+use mathlib.Core.List.{List, [], _∷_, _++_, map, append-nil, append-assoc}
 use mathlib.Core.Bool.{Bool, true, false}
 use mathlib.Core.Path.{_≡_, refl, ap, _∙_}
 use native.Mathlib.Omega.{arith}
 use lib.Dec.{eqb}
 use lib.ListN.{length, take, drop, length-drop, take-append-drop}
 use lib.Seq.{drop-append-seam}
-use Rattle.bits.specs.Bits.{cut, zeros, leading}
-use Rattle.rows.specs.Row.{Row, pick, told}
+use Rattle.bits.specs.Bits.{cut, zeros}
+use Rattle.rows.specs.Row.{Row, Cond, pick, told, holds}
 use Rattle.rows.specs.Walk.{Outcome, done, refused, andThen, walk, there, boxesAt, slotsOf, frameOn, frame, laidOn, slots, ending, read, write}
-use Rattle.rows.specs.inner.Step.{said, resume, Ready, Ended}
+use Rattle.rows.specs.inner.Step.{passes, resume, Ready, Took, Ended}
 use Rattle.rows.specs.inner.Line.{start, Takes, taken, _▸_, Puts, given, _◂_, tells}
 use Rattle.rows.specs.declared.Cursor.{Cursor}
+use Rattle.rows.specs.declared.Rule.{Rule}
 use Rattle.rows.proofs.Boxes.{length-there, laid-append}
-use Rattle.rows.proofs.Taking.{took-refused}
-
-said-then : {A B : Type 0} (o : Outcome A) (f : A → ℕ → Outcome B) → ((a : A) (end : ℕ) → said (f a end) ≡ f a end)
-    → said (andThen o f) ≡ andThen (said o) f
-said-then (done a end) f same = same a end
-said-then (refused n at i) f same = refl
-
-said-ending : (bs : List Bool) (vals : List ℕ) (at : ℕ) → said (ending bs vals at) ≡ ending bs vals at
-unfolding ending
-said-ending bs vals at = go (eqb (at + leading (drop at bs)) (length bs))
-  where
-    go : (b : Bool) → said (pick b (done vals at) (refused 5 (at + leading (drop at bs)) 0)) ≡ pick b (done vals at) (refused 5 (at + leading (drop at bs)) 0)
-    go true = refl
-    go false = refl
+use Rattle.rows.proofs.Taking.{took-refused, took-absent, ended-there}
 
 module _ (words : List ℕ) (end : ℕ) (bs : List Bool) (long : length bs ≡ end) (cuts : words ≡ cut 32 64 (length words) bs) where
-  takes-run : {rows : List Row} (i : ℕ) {seen : List ℕ} {c : Cursor} {all : List ℕ} {d : Cursor}
+  takes-run : {rows : List Row} {seen : List ℕ} {c : Cursor} {all : List ℕ} {d : Cursor}
+      → c .field + length rows < 2 ^ 32
       → Takes words end rows seen c all d
-      → resume end (boxesAt bs) rows i seen c ≡ resume end (boxesAt bs) [] 0 all d
-  unfolding resume
-  takes-run i taken = refl
-  takes-run i (_▸_ {k} {rs} {seen} took rest) = took .step bs long cuts k rs i seen refl ∙ takes-run (suc i) rest
+      → resume end (boxesAt bs) rows seen c ≡ resume end (boxesAt bs) [] all d
+  takes-run few taken = refl
+  takes-run few (_▸_ {k} {rs} {seen} took rest) =
+      took .step bs long cuts k rs seen refl (omega arith) ∙ takes-run (omega (arith, took .counted)) rest
 
   -- A whole reading.
   pub takes-read : (rows : List Row) (all : List ℕ) (d e : Cursor)
+      → length rows < 2 ^ 32
       → Takes words end rows [] start all d
       → Ended words end d e
-      → said (read rows bs) ≡ tells e all
+      → read rows bs ≡ tells e all
   unfolding read resume
-  takes-read rows all d e line ended =
-      let steps : said (walk (length bs) (boxesAt bs) rows 0 [] 0) ≡ resume end (boxesAt bs) [] 0 all d =
-      rw long (takes-run 0 line) in
-      said-then (walk (length bs) (boxesAt bs) rows 0 [] 0) (ending bs) (said-ending bs)
-      ∙ ap (λ (o : Outcome (List ℕ)). andThen o (ending bs)) steps
-      ∙ ended .says bs long cuts 0 all
+  takes-read rows all d e few line ended =
+      let steps : walk (length bs) (boxesAt bs) rows 0 [] 0 ≡ resume end (boxesAt bs) [] all d = rw long (takes-run (omega arith) line) in
+      ap (λ (o : Outcome (List ℕ)). andThen o (ending bs)) steps ∙ ended .says bs long cuts all
 
 module _ (room : ℕ) where
   -- What the numbers put come to, and the draft where there was no fault.
-  pub record Ran (vals : List ℕ) (rows : List Row) (i : ℕ) (seen rest xs : List ℕ) (c : Cursor) (ys : List ℕ) (d : Cursor) : Type 0 where
-    pub comes : resume room (slotsOf vals) rows i seen c ≡ resume room (slotsOf vals) [] 0 vals d
+  pub record Ran (vals : List ℕ) (rows : List Row) (seen rest xs : List ℕ) (c : Cursor) (ys : List ℕ) (d : Cursor) : Type 0 where
+    pub comes : resume room (slotsOf vals) rows seen c ≡ resume room (slotsOf vals) [] vals d
     pub before : d .why ≡ 0 → c .why ≡ 0
     pub laid :
         d .why ≡ 0
@@ -64,25 +51,26 @@ module _ (room : ℕ) where
         → (length (laidOn out (frameOn rows seen rest) rest) ≡ d .at)
         × (ys ≡ cut 32 32 (length xs) (laidOn out (frameOn rows seen rest) rest))
 
-  puts-run : (vals : List ℕ) {rows : List Row} (i : ℕ) {seen : List ℕ} (rest : List ℕ) {xs : List ℕ} {c : Cursor} {all ys : List ℕ} {d : Cursor}
+  puts-run : (vals : List ℕ) {rows : List Row} {seen : List ℕ} (rest : List ℕ) {xs : List ℕ} {c : Cursor} {all ys : List ℕ} {d : Cursor}
       → vals ≡ seen ++ rest
       → length rest ≡ slots rows
+      → c .field + length rows < 2 ^ 32
       → Puts room vals rows seen xs c all ys d
-      → Ran vals rows i seen rest xs c ys d
-  unfolding resume
-  puts-run vals i [] parts sized given =
+      → Ran vals rows seen rest xs c ys d
+  puts-run vals [] parts sized few given =
       record { comes = rw (parts, append-nil); before = λ ok. ok; laid = λ ok out at drafted. (at, drafted) }
-  puts-run vals i (v ∷ rest) parts sized given = absurd (omega arith)
-  puts-run vals i rest parts sized (_◂_ {ws} {k} {rule} {rs} {seen} {xs} {c} {zs} {e} {all} {ys} {d} gave others) =
+  puts-run vals (v ∷ rest) parts sized few given = absurd (omega arith)
+  puts-run vals rest parts sized few (_◂_ {ws} {k} {rule} {rs} {seen} {xs} {c} {zs} {e} {all} {ys} {d} gave others) =
       let n : ℕ = length ws in
       let own : take n (drop (length seen) vals) ≡ take n rest = rw (parts, drop-append-seam seen rest) in
-      let along : Ran vals rs (suc i) (seen ++ take n (drop (length seen) vals)) (drop n rest) zs e ys d =
-      puts-run vals (suc i) (drop n rest)
+      let along : Ran vals rs (seen ++ take n (drop (length seen) vals)) (drop n rest) zs e ys d =
+      puts-run vals (drop n rest)
       (parts ∙ rw own (rw (append-assoc, take-append-drop n rest)))
       (rw (length-drop n rest) (omega arith))
+      (omega (arith, gave .counted))
       others in
       record {
-        comes = gave .step vals k rs i seen refl refl ∙ along .comes;
+        comes = gave .step vals k rs seen refl refl (omega arith) ∙ along .comes;
         before = λ ok. gave .before (along .before ok);
         laid = λ ok out at drafted.
             let one = gave .laid (along .before ok) out at drafted in
@@ -96,25 +84,25 @@ module _ (room : ℕ) where
 
   -- A whole writing: what it comes to, and the draft where there was no fault.
   pub puts-write : (rows : List Row) (vals xs all ys : List ℕ) (d : Cursor)
+      → length rows < 2 ^ 32
       → length vals ≡ slots rows
       → xs ≡ cut 32 32 (length xs) []
       → Puts room vals rows [] xs start all ys d
-      → (said (write rows room vals) ≡ tells d (laidOn [] (frame rows vals) vals ++ zeros (room - d .at)))
+      → (write rows room vals ≡ tells d (laidOn [] (frame rows vals) vals ++ zeros (room - d .at)))
       × (d .why ≡ 0 → ys ≡ cut 32 32 (length xs) (laidOn [] (frame rows vals) vals))
   unfolding write frame resume
-  puts-write rows vals xs all ys d sized empty puts =
-      let ran = puts-run vals 0 vals refl sized puts in
+  puts-write rows vals xs all ys d few sized empty puts =
+      let ran = puts-run vals vals refl sized (omega arith) puts in
       let bits : List Bool = laidOn [] (frameOn rows [] vals) vals in
-      let steps : said (walk room (slotsOf vals) rows 0 [] 0) ≡ tells d vals = ran .comes in (
-        said-then (walk room (slotsOf vals) rows 0 [] 0) (λ all end. done (bits ++ zeros (room - end)) end) (λ all end. refl)
-            ∙ ap (λ (o : Outcome (List ℕ)). andThen o (λ all end. done (bits ++ zeros (room - end)) end)) steps
+      let steps : walk room (slotsOf vals) rows 0 [] 0 ≡ tells d vals = ran .comes in (
+        ap (λ (o : Outcome (List ℕ)). andThen o (λ all end. done (bits ++ zeros (room - end)) end)) steps
             ∙ go (eqb (d .why) 0),
         λ ok. ran .laid ok [] refl empty .1,
       )
     where
       go : (b : Bool)
-          → andThen (pick b (done vals (d .at)) (refused (d .why) (d .at) 0)) (λ all end. done (laidOn [] (frameOn rows [] vals) vals ++ zeros (room - end)) end)
-          ≡ pick b (done (laidOn [] (frameOn rows [] vals) vals ++ zeros (room - d .at)) (d .at)) (refused (d .why) (d .at) 0)
+          → andThen (pick b (done vals (d .at)) (refused (d .why) (d .at) (d .field - 1))) (λ all end. done (laidOn [] (frameOn rows [] vals) vals ++ zeros (room - end)) end)
+          ≡ pick b (done (laidOn [] (frameOn rows [] vals) vals ++ zeros (room - d .at)) (d .at)) (refused (d .why) (d .at) (d .field - 1))
       go true = refl
       go false = refl
 
@@ -149,3 +137,40 @@ stopped ready why [] seen = taken
 stopped {words} {end} {c} ready why (r ∷ rs) seen =
     let rest : Takes words end rs (seen ++ []) c seen c = rw (append-nil seen) (stopped ready why rs seen) in
     took-refused words end c _ (r .boxes) (r .rule) [] ready why ▸ rest
+
+-- Takes of rows that are all absent: the cursor counts them, and stays where it is.
+pub record Skips (words : List ℕ) (end : ℕ) (rows : List Row) (seen : List ℕ) (c : Cursor) (all : List ℕ) : Type 0 where
+  pub last : Cursor
+  pub takes : Takes words end rows seen c all last
+  pub ready : Ready words end last
+  pub clear : last .why ≡ 0
+  pub here : last .at ≡ c .at
+
+module _ {words : List ℕ} {end : ℕ} {c : Cursor} where
+  pub skips-none : Ready words end c → c .why ≡ 0 → (seen : List ℕ) → Skips words end [] seen c seen
+  skips-none ready clear seen = record { last = c; takes = taken; ready = ready; clear = clear; here = refl }
+
+  pub skips-more : {ws : List ℕ} {k : Cond} {rule : Rule} {rs : List Row} {seen all : List ℕ}
+      → Ready words end c
+      → c .why ≡ 0
+      → holds (told k seen) ≡ false
+      → ((d : Cursor) → Ready words end d → d .why ≡ 0 → Skips words end rs (seen ++ map (λ (w : ℕ). 0) ws) d all)
+      → Skips words end (record { boxes = ws; cond = k; rule = rule } ∷ rs) seen c all
+  skips-more {ws} {k} {rule} {seen} ready clear absent rest =
+      let took : Took words end c (told k seen) ws rule (map (λ (w : ℕ). 0) ws) (passes c 1 0 0) =
+      took-absent words end c (told k seen) ws rule (map (λ (w : ℕ). 0) ws) (passes c 1 0 0) ready clear absent refl refl in
+      let others = rest (passes c 1 0 0) (took .ready) refl in
+      record {
+        last = others .last;
+        takes = took ▸ others .takes;
+        ready = others .ready;
+        clear = others .clear;
+        here = others .here ∙ omega arith;
+      }
+
+  -- So the end of a reading behind them is that before them.
+  pub skips-ended : {rows : List Row} {seen all : List ℕ} (e : Cursor) (s : Skips words end rows seen c all)
+      → c .why ≡ 0
+      → Ended words end c e
+      → Ended words end (s .last) e
+  skips-ended e s clear ended = ended-there words end c (s .last) e clear (s .clear) (s .here) ended

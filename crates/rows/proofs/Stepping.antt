@@ -1,34 +1,49 @@
 -- One step of a walk in code is one step of its meaning: what `admit` makes of a cursor stands for the same answer.
-use Prim.Native.Nat.{ℕ, suc, _+_, _≤_, _<_, zero, _*_}
+use Prim.Native.Nat.{ℕ, zero, suc, _+_, _-_, _*_, _^_, _≤_, _<_}
 use mathlib.Core.List.{List, [], _∷_, _++_, map}
 use mathlib.Core.Bool.{Bool, true, false, not}
 use mathlib.Core.Path.{_≡_, refl, sym, ap, _∙_}
 use native.Mathlib.Omega.{arith}
+use native.Mathlib.Nat.{mod-eq-of-lt, mod-le}
 use lib.Dec.{eqb, ltb}
 use lib.ListN.{length, getD, replicate}
 use borrow.Author.Tests.{eq-eqb, lt-ltb, le-ltb, ltb-false, eqb-true, eqb-false, not-true, not-false}
 use Rattle.rows.specs.Row.{Row, Cond, pick, told, holds, broken}
 use Rattle.rows.specs.Walk.{done, refused, andThen, Source, walk, field, total, there, exceeds, fault}
-use Rattle.rows.specs.inner.Step.{settled, admitted, said, resume}
+use Rattle.rows.specs.inner.Step.{further, stays, passes, settled, admitted, resume}
 use Rattle.rows.specs.declared.Cursor.{Cursor}
 use Rattle.rows.specs.declared.When.{When}
 use Rattle.rows.specs.declared.Rule.{Rule}
 use Rattle.rows.specs.declared.Rule.the-variants.{Any, Most, Tariff, NoSecond}
 
-module _ (room : ℕ) (from : Source) (rs : List Row) (i : ℕ) (seen : List ℕ) (at v : ℕ) where
+-- A count that fits goes up by one, and any by at most that.
+count-next : (i : ℕ) → suc i < 2 ^ 32 → further 1 i ≡ suc i
+count-next i small = let next : i + 1 ≡ suc i = omega arith in rw next (mod-eq-of-lt small)
+
+count-most : (i : ℕ) → further 1 i ≤ suc i
+count-most i = let next : i + 1 ≡ suc i = omega arith in rw (← next) (mod-le (i + 1) (2 ^ 32))
+
+pub count-twice : (i : ℕ) → further 2 i ≡ further 1 (further 1 i)
+count-twice i = omega arith
+
+-- After a refusal only the number is another.
+abbrev kept : Cursor → ℕ → Cursor
+kept c v = record { at = c .at; why = c .why; field = c .field; number = v }
+
+module _ (room : ℕ) (from : Source) (rs : List Row) (seen : List ℕ) (c : Cursor) (v : ℕ) (small : suc (c .field) < 2 ^ 32) where
   -- One field's outcome, and the cursor that stands for it. The numbers count only where there is no fault.
   settled-fault : (W n : ℕ) (us vs : List ℕ) (b : Bool) → eqb n 0 ≡ b → (b ≡ true → us ≡ vs)
-      → said (andThen (pick b (done us (at + W)) (refused n at i)) (λ us end. walk room from rs (suc i) (seen ++ us) end))
-      ≡ resume room from rs (suc i) (seen ++ vs) (pick b (record { at = at + W; why = 0; number = v }) (record { at = at; why = n; number = v }))
+      → andThen (pick b (done us (c .at + W)) (refused n (c .at) (c .field))) (λ us end. walk room from rs (suc (c .field)) (seen ++ us) end)
+      ≡ resume room from rs (seen ++ vs) (pick b (passes c 1 W v) (stays c n v))
   unfolding resume
-  settled-fault W n us vs true e same = rw (same refl)
-  settled-fault W n us vs false e same = rw e
+  settled-fault W n us vs true e same = rw (same refl, count-next (c .field) small)
+  settled-fault W n us vs false e same = let here : further 1 (c .field) - 1 ≡ c .field = omega (arith, count-next (c .field) small) in rw (e, here)
 
   settled-step : (W : ℕ) (us vs : List ℕ) (wide past : Bool) (m n : ℕ)
       → (wide ≡ false → past ≡ false → m ≡ n)
       → (wide ≡ false → past ≡ false → n ≡ 0 → us ≡ vs)
-      → said (andThen (pick (eqb (pick wide 7 (pick past 2 m)) 0) (done us (at + W)) (refused (pick wide 7 (pick past 2 m)) at i)) (λ us end. walk room from rs (suc i) (seen ++ us) end))
-      ≡ resume room from rs (suc i) (seen ++ vs) (settled at W (pick wide 7 (pick past 2 n)) v)
+      → andThen (pick (eqb (pick wide 7 (pick past 2 m)) 0) (done us (c .at + W)) (refused (pick wide 7 (pick past 2 m)) (c .at) (c .field))) (λ us end. walk room from rs (suc (c .field)) (seen ++ us) end)
+      ≡ resume room from rs (seen ++ vs) (settled c W (pick wide 7 (pick past 2 n)) v)
   settled-step W us vs true past m n ruled same = settled-fault W 7 us vs false refl (λ e. cc)
   settled-step W us vs false true m n ruled same = settled-fault W 2 us vs false refl (λ e. cc)
   settled-step W us vs false false m n ruled same =
@@ -37,15 +52,16 @@ module _ (room : ℕ) (from : Source) (rs : List Row) (i : ℕ) (seen : List ℕ
 -- What the source gives need agree with the code's numbers only where they count: the rule where the field has room, the
 -- numbers where it has no fault.
 pub admit-step : (room : ℕ) (from : Source) (c : Cursor) (t : When) (ws : List ℕ) (rule : Rule) (vs : List ℕ) (wide : Bool) (n v : ℕ)
-    (k : Cond) (rs : List Row) (i : ℕ) (seen : List ℕ)
+    (k : Cond) (rs : List Row) (seen : List ℕ)
     → told k seen ≡ t
+    → suc (c .field) < 2 ^ 32
     → exceeds (there t ws) (from (c .at) (length seen) (there t ws)) ≡ wide
     → (c .at + total (there t ws) ≤ room → broken rule (from (c .at) (length seen) (there t ws)) ≡ n)
     → (c .at + total (there t ws) ≤ room → admitted c room (total (there t ws)) wide n v .why ≡ 0 → from (c .at) (length seen) (there t ws) ≡ vs)
-    → resume room from (record { boxes = ws; cond = k; rule = rule } ∷ rs) i seen c
-    ≡ resume room from rs (suc i) (seen ++ vs) (admitted c room (total (there t ws)) wide n v)
+    → resume room from (record { boxes = ws; cond = k; rule = rule } ∷ rs) seen c
+    ≡ resume room from rs (seen ++ vs) (admitted c room (total (there t ws)) wide n v)
 unfolding resume field
-admit-step room from c t ws rule vs wide n v k rs i seen e w ruled same = go (eqb (c .why) 0) refl
+admit-step room from c t ws rule vs wide n v k rs seen e small w ruled same = go (eqb (c .why) 0) refl
   where
     us : List ℕ
     us = from (c .at) (length seen) (there t ws)
@@ -57,12 +73,12 @@ admit-step room from c t ws rule vs wide n v k rs i seen e w ruled same = go (eq
     clear h x p z = rw (h, x, p, z)
 
     go : (b : Bool) → eqb (c .why) 0 ≡ b
-        → pick b (said (walk room from (record { boxes = ws; cond = k; rule = rule } ∷ rs) i seen (c .at))) (refused (c .why) (c .at) 0)
-        ≡ resume room from rs (suc i) (seen ++ vs) (pick b (settled (c .at) W (fault wide (c .at + W) room n) v) (record { at = c .at; why = c .why; number = v }))
+        → pick b (walk room from (record { boxes = ws; cond = k; rule = rule } ∷ rs) (c .field) seen (c .at)) (refused (c .why) (c .at) (c .field - 1))
+        ≡ resume room from rs (seen ++ vs) (pick b (settled c W (fault wide (c .at + W) room n) v) (kept c v))
     go false h = rw h
     go true h =
         rw (e, w)
-        (settled-step room from rs i seen (c .at) v W us vs wide (ltb room (c .at + W)) (broken rule us) n
+        (settled-step room from rs seen c v small W us vs wide (ltb room (c .at + W)) (broken rule us) n
         (λ x p. ruled (ltb-false _ _ p))
         (λ x p z. same (ltb-false _ _ p) (clear h x p z)))
 
@@ -80,14 +96,14 @@ pub admitted-clear : (c : Cursor) (room W : ℕ) (wide : Bool) (n v : ℕ)
 admitted-clear c room W wide n v = go (eqb (c .why) 0) wide (ltb room (c .at + W)) refl refl
   where
     last : (z : Bool) → eqb n 0 ≡ z → c .why ≡ 0 → c .at + W ≤ room
-        → (pick {A = Cursor} z (record { at = c .at + W; why = 0; number = v }) (record { at = c .at; why = n; number = v })) .why ≡ 0
-        → Clear c room W false n ((pick {A = Cursor} z (record { at = c .at + W; why = 0; number = v }) (record { at = c .at; why = n; number = v })) .at)
+        → (pick {A = Cursor} z (passes c 1 W v) (stays c n v)) .why ≡ 0
+        → Clear c room W false n ((pick {A = Cursor} z (passes c 1 W v) (stays c n v)) .at)
     last true e before inside h = record { before = before; narrow = refl; inside = inside; kept = eqb-true n 0 e; moved = refl }
     last false e before inside h = absurd (eqb-false n 0 e h)
 
     go : (b wide past : Bool) → eqb (c .why) 0 ≡ b → ltb room (c .at + W) ≡ past
-        → (pick b (settled (c .at) W (pick wide 7 (pick past 2 n)) v) (record { at = c .at; why = c .why; number = v })) .why ≡ 0
-        → Clear c room W wide n ((pick b (settled (c .at) W (pick wide 7 (pick past 2 n)) v) (record { at = c .at; why = c .why; number = v })) .at)
+        → (pick b (settled c W (pick wide 7 (pick past 2 n)) v) (kept c v)) .why ≡ 0
+        → Clear c room W wide n ((pick b (settled c W (pick wide 7 (pick past 2 n)) v) (kept c v)) .at)
     go false wide past e p h = absurd (eqb-false _ _ e h)
     go true true past e p h = absurd (omega arith)
     go true false true e p h = absurd (omega arith)
@@ -97,37 +113,47 @@ admitted-clear c room W wide n v = go (eqb (c .why) 0) wide (ltb room (c .at + W
 pub admitted-within : (c : Cursor) (room W : ℕ) (wide : Bool) (n v : ℕ) → c .at ≤ room → admitted c room W wide n v .at ≤ room
 admitted-within c room W wide n v h = go (eqb (c .why) 0) wide (ltb room (c .at + W)) refl
   where
-    last : (m : ℕ) (b : Bool) → c .at + W ≤ room → pick {A = Cursor} b (record { at = c .at + W; why = 0; number = v }) (record { at = c .at; why = m; number = v }) .at ≤ room
+    last : (m : ℕ) (b : Bool) → c .at + W ≤ room → pick {A = Cursor} b (passes c 1 W v) (stays c m v) .at ≤ room
     last m true l = l
     last m false l = h
 
     go : (b wide past : Bool) → ltb room (c .at + W) ≡ past
-        → pick b (settled (c .at) W (pick wide 7 (pick past 2 n)) v) (record { at = c .at; why = c .why; number = v }) .at ≤ room
+        → pick b (settled c W (pick wide 7 (pick past 2 n)) v) (kept c v) .at ≤ room
     go false wide past e = h
     go true true past e = h
     go true false true e = h
     go true false false e = last n (eqb n 0) (ltb-false _ _ e)
 
--- The number goes through as it is.
-pub admitted-number : (c : Cursor) (room W : ℕ) (wide : Bool) (n v : ℕ) → admitted c room W wide n v .number ≡ v
-admitted-number c room W wide n v = go (eqb (c .why) 0) (eqb (fault wide (c .at + W) room n) 0)
+-- What is the same of a cursor whatever becomes of a field: the number goes through as it is, the count rises by one at most.
+admitted-any : (P : Cursor → Type 0) (c : Cursor) (room W : ℕ) (wide : Bool) (n v : ℕ)
+    → P (passes c 1 W v)
+    → ((m : ℕ) → P (stays c m v))
+    → P (kept c v)
+    → P (admitted c room W wide n v)
+admitted-any P c room W wide n v on off before = go (eqb (c .why) 0) (eqb m 0)
   where
     m : ℕ
     m = fault wide (c .at + W) room n
 
-    go : (a b : Bool) → pick {A = Cursor} a (pick b (record { at = c .at + W; why = 0; number = v }) (record { at = c .at; why = m; number = v })) (record { at = c .at; why = c .why; number = v }) .number ≡ v
-    go false b = refl
-    go true false = refl
-    go true true = refl
+    go : (a b : Bool) → P (pick {A = Cursor} a (pick b (passes c 1 W v) (stays c m v)) (kept c v))
+    go false b = before
+    go true false = off m
+    go true true = on
+
+pub admitted-number : (c : Cursor) (room W : ℕ) (wide : Bool) (n v : ℕ) → admitted c room W wide n v .number ≡ v
+admitted-number c room W wide n v = admitted-any (λ (d : Cursor). d .number ≡ v) c room W wide n v refl (λ m. refl) refl
+
+pub admitted-counted : (c : Cursor) (room W : ℕ) (wide : Bool) (n v : ℕ) → admitted c room W wide n v .field ≤ suc (c .field)
+admitted-counted c room W wide n v =
+    admitted-any (λ (d : Cursor). d .field ≤ suc (c .field)) c room W wide n v (count-most (c .field)) (λ m. count-most (c .field)) (omega arith)
 
 -- A field of no bits, and one that runs past the end.
-pub admitted-none : (c : Cursor) (room : ℕ) → c .at ≤ room → c .why ≡ 0
-    → record { at = c .at; why = 0; number = 0 } ≡ admitted c room 0 false 0 0
+pub admitted-none : (c : Cursor) (room : ℕ) → c .at ≤ room → c .why ≡ 0 → passes c 1 0 0 ≡ admitted c room 0 false 0 0
 admitted-none c room within clear =
     let here : c .at + 0 ≡ c .at = omega arith in
     rw (eq-eqb _ _ clear, here, le-ltb _ _ within)
 
-pub admitted-past : (c : Cursor) (room W : ℕ) → c .why ≡ 0 → room < c .at + W → record { at = c .at; why = 2; number = 0 } ≡ admitted c room W false 0 0
+pub admitted-past : (c : Cursor) (room W : ℕ) → c .why ≡ 0 → room < c .at + W → stays c 2 0 ≡ admitted c room W false 0 0
 admitted-past c room W clear long = rw (eq-eqb _ _ clear, lt-ltb _ _ long)
 
 pub map-none : (n w : ℕ) → map {B = ℕ} (λ (x : ℕ). 0) (replicate n w) ≡ replicate n 0

@@ -15,10 +15,10 @@ use Rattle.bits.proofs.Spelling.{number-lt}
 use Rattle.bits.proofs.Cutting.{number-at}
 use Rattle.bits.proofs.Fronts.{part, part-part, part-take}
 use Rattle.rows.proofs.Boxes.{numbers-fit}
-use Rattle.rows.proofs.Stepping.{admit-step, admitted-within, admitted-number, admitted-none, admitted-past, broken-none, total-none, total-same}
+use Rattle.rows.proofs.Stepping.{admit-step, admitted-within, admitted-number, admitted-counted, admitted-none, admitted-past, broken-none, total-none, total-same}
 use Rattle.rows.specs.Row.{pick, told, holds, broken}
 use Rattle.rows.specs.Walk.{total, there, numbers, boxesAt, ending}
-use Rattle.rows.specs.inner.Step.{admitted, resume, Ready, Took, Ended, lettersAt}
+use Rattle.rows.specs.inner.Step.{stays, passes, admitted, resume, Ready, Took, Ended, lettersAt}
 use Rattle.rows.specs.declared.Cursor.{Cursor}
 use Rattle.rows.specs.declared.When.{When}
 use Rattle.rows.specs.declared.Rule.{Rule}
@@ -35,9 +35,10 @@ pub took : (words : List ℕ) (end : ℕ) (c : Cursor) (t : When) (ws : List ℕ
 took words end c t ws rule vs W n v d ready width holds is =
     record {
       ready = record { within = rw is (admitted-within c end W false n v (ready .within)); covered = ready .covered };
-      step = λ bs long cuts k rs i seen told.
+      counted = rw is (admitted-counted c end W false n v);
+      step = λ bs long cuts k rs seen told small.
           rw (is, width)
-          (admit-step end (boxesAt bs) c t ws rule vs false n v k rs i seen told (numbers-fit (there t ws) (drop (c .at) bs))
+          (admit-step end (boxesAt bs) c t ws rule vs false n v k rs seen told small (numbers-fit (there t ws) (drop (c .at) bs))
           (λ room. holds bs long cuts (rw width room) .0)
           (λ room ok. holds bs long cuts (rw width room) .1 (rw (is, width) ok)));
     }
@@ -48,7 +49,8 @@ pub took-refused : (words : List ℕ) (end : ℕ) (c : Cursor) (t : When) (ws : 
     → (c .why ≡ 0 → ⊥)
     → Took words end c t ws rule vs c
 unfolding resume
-took-refused words end c t ws rule vs ready why = record { ready = ready; step = λ bs long cuts k rs i seen told. rw (ne-eqb _ _ why) }
+took-refused words end c t ws rule vs ready why =
+    record { ready = ready; counted = omega arith; step = λ bs long cuts k rs seen told small. rw (ne-eqb _ _ why) }
 
 -- A field that is absent has boxes of no bits, which hold zeros.
 numbers-none : (ws : List ℕ) (bs : List Bool) → numbers (map (λ (w : ℕ). 0) ws) bs ≡ map (λ (w : ℕ). 0) ws
@@ -60,7 +62,7 @@ pub took-absent : (words : List ℕ) (end : ℕ) (c : Cursor) (t : When) (ws : L
     → c .why ≡ 0
     → holds t ≡ false
     → vs ≡ map (λ (w : ℕ). 0) ws
-    → d ≡ record { at = c .at; why = 0; number = 0 }
+    → d ≡ passes c 1 0 0
     → Took words end c t ws rule vs d
 took-absent words end c t ws rule vs d ready clear absent zeros is =
     took words end c t ws rule vs 0 0 0 d ready
@@ -70,26 +72,12 @@ took-absent words end c t ws rule vs d ready clear absent zeros is =
     (ap (broken rule) gives ∙ broken-none rule ws, λ _. gives ∙ sym zeros))
     (is ∙ admitted-none c end (ready .within) clear)
 
--- It leaves any cursor where it is.
-pub took-skip : (words : List ℕ) (end : ℕ) (c : Cursor) (t : When) (ws : List ℕ) (rule : Rule)
-    → Ready words end c
-    → c .why ≡ 0
-    → holds t ≡ false
-    → Took words end c t ws rule (map (λ (w : ℕ). 0) ws) c
-unfolding resume
-took-skip words end c t ws rule ready clear absent =
-    let there = took-absent words end c t ws rule (map (λ (w : ℕ). 0) ws) (record { at = c .at; why = 0; number = 0 }) ready clear absent refl refl in
-    record {
-      ready = ready;
-      step = λ bs long cuts k rs i seen told. there .step bs long cuts k rs i seen told ∙ rw (eq-eqb _ _ clear);
-    }
-
 -- A field that runs past the end.
 pub took-past : (words : List ℕ) (end : ℕ) (c : Cursor) (t : When) (ws : List ℕ) (rule : Rule) (vs : List ℕ) (d : Cursor)
     → Ready words end c
     → c .why ≡ 0
     → end < c .at + total (there t ws)
-    → d ≡ record { at = c .at; why = 2; number = 0 }
+    → d ≡ stays c 2 0
     → Took words end c t ws rule vs d
 took-past words end c t ws rule vs d ready clear long is =
     took words end c t ws rule vs (total (there t ws)) 0 0 d ready refl
@@ -252,7 +240,7 @@ took-text words end c t letters n d ready present spelt is =
 -- The end of a reading after a refusal, at the end of the bits, and at a one before it.
 pub ended-refused : (words : List ℕ) (end : ℕ) (c : Cursor) → (c .why ≡ 0 → ⊥) → Ended words end c c
 unfolding resume
-ended-refused words end c why = record { says = λ bs long cuts i seen. rw (ne-eqb _ _ why) }
+ended-refused words end c why = record { says = λ bs long cuts seen. rw (ne-eqb _ _ why) }
 
 module _ (words : List ℕ) (end : ℕ) (c : Cursor) (one : ℕ)
     (clear : c .why ≡ 0)
@@ -261,14 +249,20 @@ module _ (words : List ℕ) (end : ℕ) (c : Cursor) (one : ℕ)
   unfolding resume ending
   ended-done last =
       record {
-        says = λ bs long cuts i seen.
+        says = λ bs long cuts seen.
             rw (eq-eqb _ _ clear, eq-eqb _ _ (sym (found bs long cuts) ∙ last ∙ sym long));
       }
 
-  pub ended-five : (one ≡ end → ⊥) → Ended words end c (record { at = one; why = 5; number = 0 })
+  pub ended-five : (one ≡ end → ⊥) → Ended words end c (record { at = one; why = 5; field = 0; number = 0 })
   unfolding resume ending
   ended-five short =
       record {
-        says = λ bs long cuts i seen.
+        says = λ bs long cuts seen.
             rw (eq-eqb _ _ clear, ne-eqb _ _ (λ e. short (found bs long cuts ∙ e ∙ long)), found bs long cuts);
       }
+
+-- Of two cursors without a refusal at one place the end is one.
+pub ended-there : (words : List ℕ) (end : ℕ) (c d e : Cursor) → c .why ≡ 0 → d .why ≡ 0 → d .at ≡ c .at → Ended words end c e → Ended words end d e
+unfolding resume
+ended-there words end c d e clear same here ended =
+    record { says = λ bs long cuts seen. rw (eq-eqb _ _ same, here) (rw (eq-eqb _ _ clear) at (ended .says bs long cuts seen)) }

@@ -1,8 +1,10 @@
--- Which numbers the reading and the writing of a table can refuse with. Document 01, "Refusal numbers".
+-- Which numbers the reading and the writing of a table can refuse with, and which of them name a field. Document 01, "Refusal
+-- numbers"; 02, Q-2.
 use Prim.Native.Nat.{ℕ, _+_}
+use mathlib.Core.Bool.{Bool, _||_}
 use mathlib.Core.List.{List, [], _∷_, _++_}
-use lib.Dec.{ltb}
-use Rattle.rows.specs.Row.{Row, pick}
+use lib.Dec.{eqb, ltb}
+use Rattle.rows.specs.Row.{Row, pick, among}
 use Rattle.rows.specs.Walk.{total}
 use Rattle.rows.specs.declared.Rule.{Rule}
 use Rattle.rows.specs.declared.Rule.the-variants.{Any, Most, Tariff, NoSecond}
@@ -35,3 +37,10 @@ readNumbers room rows = 5 ∷ walkNumbers room rows
 -- and in writing 7, a number too wide.
 abbrev pub writeNumbers : ℕ → List Row → List ℕ
 writeNumbers room rows = 7 ∷ walkNumbers room rows
+
+-- The numbers of a field's own refusals. Only with these is a field named; with every other the rank is 0.
+abbrev pub ofFields : List ℕ
+ofFields = 2 ∷ 3 ∷ 4 ∷ 7 ∷ []
+
+abbrev pub mayName : ℕ → ℕ → Bool
+mayName n i = among n ofFields || eqb i 0

@@ -110,3 +110,8 @@ slots (r ∷ rs) = length (r .boxes) + slots rs
 abbrev pub firstPast : ℕ → List ℕ → ℕ → ℕ
 firstPast room [] at = at
 firstPast room (w ∷ ws) at = pick (ltb room (at + w)) at (firstPast room ws (at + w))
+
+-- And its rank, of those from i on.
+abbrev pub rankPast : ℕ → List ℕ → ℕ → ℕ → ℕ
+rankPast room [] at i = i
+rankPast room (w ∷ ws) at i = pick (ltb room (at + w)) i (rankPast room ws (at + w) (suc i))

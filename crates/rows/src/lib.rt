@@ -1,4 +1,9 @@
 // Rows: the steps that every reader and writer is a straight line of, a line a field.
+ghost use mathlib.Core.Path.{_≡_};
+ghost use Prim.Native.Nat.{_+_, _^_, _<_};
+ghost use Rattle.rows.specs.inner.Step.{passes};
+use std::num::wrapping_add_u32;
+
 pub mod put;
 mod step;
 pub mod take;
@@ -7,6 +12,7 @@ pub mod take;
 pub struct Cursor {
     pub at: u32, // the bit reached: the place of the refusal, once there is one
     pub why: u32, // the refusal's number, 0 for none
+    pub field: u32, // how many fields it has come to: the one at fault, once there is one, is the last of them
     pub number: u32, // the number read last
 }
 
@@ -30,6 +36,20 @@ impl Cursor {
     pub const START: Cursor = Cursor {
         at: 0,
         why: 0,
+        field: 0,
         number: 0,
     };
+
+    // Behind so many fields of so many bits in all. A walk does not know how long its table is, and counts modulo 2^32.
+    pub fn passed(self, fields: u32, width: u32, number: u32) -> Cursor
+        requires { ⌜ self .at + width < 2 ^ 32 ⌝ }
+        ensures { λ d. ⌜ d ≡ passes self fields width number ⌝ }
+    {
+        Cursor {
+            at: self.at + width,
+            why: 0,
+            field: wrapping_add_u32(self.field, fields),
+            number,
+        }
+    }
 }

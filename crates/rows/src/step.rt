@@ -3,10 +3,11 @@ ghost use mathlib.Core.Path.{_≡_};
 ghost use mathlib.Core.List.{[], _∷_};
 ghost use Prim.Native.Nat.{_≤_};
 ghost use Rattle.rows.specs.Row.{pick, holds, broken};
-ghost use Rattle.rows.specs.inner.Step.{admitted};
+ghost use Rattle.rows.specs.inner.Step.{stays, settled, admitted};
 use crate::Cursor;
 use crate::Rule;
 use crate::When;
+use std::num::wrapping_add_u32;
 
 // Whether a field is there.
 pub fn there(when: When) -> bool
@@ -45,55 +46,47 @@ pub fn admit(c: Cursor, room: u32, width: u32, wide: bool, ruled: u32, number: u
         return Cursor {
             at: c.at,
             why: c.why,
+            field: c.field,
             number,
         };
     }
     if wide {
-        return Cursor {
-            at: c.at,
-            why: 7,
-            number,
-        };
+        return stay(c, 7, number);
     }
     if room - c.at < width {
-        return Cursor {
-            at: c.at,
-            why: 2,
-            number,
-        };
+        return stay(c, 2, number);
     }
     if ruled != 0 {
-        return Cursor {
-            at: c.at,
-            why: ruled,
-            number,
-        };
+        return stay(c, ruled, number);
     }
-    Cursor {
-        at: c.at + width,
-        why: 0,
-        number,
-    }
+    c.passed(1, width, number)
 }
 
 // A field that is absent has no bits: 7 where one of its numbers is not zero.
 pub fn absent(c: Cursor, wide: bool) -> Cursor
-    ensures { λ d. ⌜ d ≡ record { at = c .at; why = pick wide 7 0; number = 0 } ⌝ }
+    ensures { λ d. ⌜ d ≡ settled c 0 (pick wide 7 0) 0 ⌝ }
 {
-    Cursor {
-        at: c.at,
-        why: if wide { 7 } else { 0 },
-        number: 0,
+    if wide {
+        return stay(c, 7, 0);
     }
+    c.passed(1, 0, 0)
 }
 
 // A field that runs past the end.
 pub fn past(c: Cursor) -> Cursor
-    ensures { λ d. ⌜ d ≡ record { at = c .at; why = 2; number = 0 } ⌝ }
+    ensures { λ d. ⌜ d ≡ stays c 2 0 ⌝ }
+{
+    stay(c, 2, 0)
+}
+
+// The walk has come to a field, and stays there.
+fn stay(c: Cursor, why: u32, number: u32) -> Cursor
+    ensures { λ d. ⌜ d ≡ stays c why number ⌝ }
 {
     Cursor {
         at: c.at,
-        why: 2,
-        number: 0,
+        why,
+        field: wrapping_add_u32(c.field, 1),
+        number,
     }
 }

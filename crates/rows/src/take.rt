@@ -192,6 +192,7 @@ pub fn end(words: &[u64], end: u32, c: Cursor) -> Cursor
     Cursor {
         at: one,
         why: 5,
+        field: 0,
         number: 0,
     }
 }

@@ -9,7 +9,7 @@ use lib.ListN.{replicate}
 use Rattle.bits.specs.Bits.{bitsOf, cut}
 use Rattle.rows.specs.Walk.{Outcome, done, refused, read}
 use Rattle.rows.specs.table.Contract.{contract50}
-use Rattle.records.specs.Answer.{Written, refusal, accepted, denied}
+use Rattle.records.specs.Answer.{Written, refusal, refusalAt, accepted, denied}
 use Rattle.records.specs.Event.{eventOf, eventRead}
 use Rattle.records.specs.declared.event.Event.{Event}
 use Rattle.records.specs.declared.event.EventRead.{EventRead}
@@ -152,23 +152,23 @@ samples =
     ∷ places 8 4 false list8 5 (1 ∷ 2 ∷ 3 ∷ 6 ∷ 7 ∷ 8 ∷ 4 ∷ 5 ∷ [])
     -- P5 with counter: pointer 4.
     ∷ places 8 4 true list8 4 (1 ∷ 2 ∷ 5 ∷ 3 ∷ 6 ∷ 7 ∷ 8 ∷ 4 ∷ [])
-    -- P6 list 1C021A1 and 51 zero digits: refusal 4, place 7.
-    ∷ listReads 4 (0x1C021A1 and 51 zeros) (noList (refusal 4 7))
+    -- P6 list 1C021A1 and 51 zero digits: refusal 4, place 7. By 02, Q-2, field 3.
+    ∷ listReads 4 (0x1C021A1 and 51 zeros) (noList (refusalAt 4 7 3))
     -- P7 50h with head bitmap 1100011 and groups D843h, 810Dh, 0030h: 207, 198, 142 bits.
     ∷ urbanEnds 0xD843 207
     ∷ urbanEnds 0x810D 198
     ∷ urbanEnds 0x0030 142
-    -- P8 event with only element [17], date and minute 0: refusal 2, place 53.
-    ∷ eventReads 0 0 (2 ^ 17) (Refused (refusal 2 53))
-    -- P9 event minute 1439 read; 1440 refusal 4, place 14.
+    -- P8 event with only element [17], date and minute 0: refusal 2, place 53. Field 20.
+    ∷ eventReads 0 0 (2 ^ 17) (Refused (refusalAt 2 53 20))
+    -- P9 event minute 1439 read; 1440 refusal 4, place 14. Field 1.
     ∷ eventReads 0 1439 0 (Read (eventOf (0 ∷ 1439 ∷ [])))
-    ∷ eventReads 0 1440 0 (Refused (refusal 4 14))
+    ∷ eventReads 0 1440 0 (Refused (refusalAt 4 14 1))
     -- P10 list of zeros but a last byte 01h: 5, place 231.
     ∷ listReads 4 (0x01 and 0 zeros) (noList (refusal 5 231))
     -- P11 gate, first byte 05h to 07h, rest equal: write 02h.
     ∷ finds (0x05 and 56 zeros) (0x07 and 56 zeros) (replicate 29 255) (accepted (0x02 and 56 zeros))
     -- P12 05h to 06h: 10, place 7.
-    ∷ finds (0x05 and 56 zeros) (0x06 and 56 zeros) (replicate 29 255) (denied 10 7 (replicate 29 255))
+    ∷ finds (0x05 and 56 zeros) (0x06 and 56 zeros) (replicate 29 255) (denied (refusal 10 7) (replicate 29 255))
     -- P13 one hour, event day 100 minute 60: blocked at minute 119, free at 120.
     ∷ blocksAt 1 100 60 100 119 true
     ∷ blocksAt 1 100 60 100 120 false

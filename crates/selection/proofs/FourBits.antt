@@ -64,20 +64,20 @@ bits-changed {before} {n} {position} {code} m =
 -- A change may be made, or is refused with one of these numbers and changes nothing.
 may-change : (before : List ℕ) (n position code : ℕ)
     → MayChange before n position code
-    ⊎ ((r : Refusal) × Refusing (r .number) (1 ∷ 11 ∷ 2 ∷ 4 ∷ 5 ∷ 6 ∷ []) × (changing before n position code ≡ unwritten before r))
+    ⊎ ((r : Refusal) × Refusing (r .number) (r .field) (1 ∷ 11 ∷ 2 ∷ 4 ∷ 5 ∷ 6 ∷ []) × (changing before n position code ≡ unwritten before r))
 unfolding changing
 may-change before n position code =
     go (eqb (length before) 29) (eqb position 0) refl (eqb code 13) refl (ltb 15 code) refl refl (list-comes n before)
   where
     Judged : Written → Type 0
-    Judged w = MayChange before n position code ⊎ ((r : Refusal) × Refusing (r .number) (1 ∷ 11 ∷ 2 ∷ 4 ∷ 5 ∷ 6 ∷ []) × (w ≡ unwritten before r))
+    Judged w = MayChange before n position code ⊎ ((r : Refusal) × Refusing (r .number) (r .field) (1 ∷ 11 ∷ 2 ∷ 4 ∷ 5 ∷ 6 ∷ []) × (w ≡ unwritten before r))
 
-    eleven : Judged (denied 11 0 before)
-    eleven = inr (refusal 11 0, record { some = λ z. omega arith; listed = refl }, refl)
+    eleven : Judged (denied (refusal 11 0) before)
+    eleven = inr (refusal 11 0, record { some = λ z. omega arith; listed = refl; named = refl }, refl)
 
     counted : (l : ContractList) → listRead n before ≡ gotList l → eqb position 0 ≡ false → eqb code 13 ≡ false → ltb 15 code ≡ false
         → (t : Bool) → ltb (l .count) position ≡ t
-        → Judged (pick t (denied 11 0 before) (listWritten n (withPriority position code l) before))
+        → Judged (pick t (denied (refusal 11 0) before) (listWritten n (withPriority position code l) before))
     counted l same b c d true e = eleven
     counted l same b c d false e =
         let other : position ≡ 0 → ⊥ = eqb-false _ _ b in
@@ -85,8 +85,8 @@ may-change before n position code =
 
     go : (a b : Bool) → eqb position 0 ≡ b → (c : Bool) → eqb code 13 ≡ c → (d : Bool) → ltb 15 code ≡ d
         → {r : ListRead} → listRead n before ≡ r → ComesTo gotList noList (1 ∷ 11 ∷ 2 ∷ 4 ∷ 5 ∷ 6 ∷ []) r
-        → Judged (pick a (pick (b || c || d) (denied 11 0 before) (settled before (changed n position code before) (attempted r))) (denied 1 0 before))
-    go false b eb c ec d ed is told = inr (refusal 1 0, record { some = λ z. omega arith; listed = refl }, refl)
+        → Judged (pick a (pick (b || c || d) (denied (refusal 11 0) before) (settled before (changed n position code before) (attempted r))) (denied (refusal 1 0) before))
+    go false b eb c ec d ed is told = inr (refusal 1 0, record { some = λ z. omega arith; listed = refl; named = refl }, refl)
     go true true eb c ec d ed is told = eleven
     go true false eb true ec d ed is told = eleven
     go true false eb false ec true ed is told = eleven

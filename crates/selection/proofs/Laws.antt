@@ -51,7 +51,7 @@ module _ (list file : List ℕ) (n day operator : ℕ) where
 
   -- Another refusal comes first, or all is in order, the list reads, and its entries decide.
   data Decided (a : Selected) : Type 0 where
-    sooner : (r : Refusal) → Refusing (r .number) (1 ∷ 11 ∷ 2 ∷ 4 ∷ 5 ∷ 6 ∷ []) → a ≡ unselected r → Decided a
+    sooner : (r : Refusal) → Refusing (r .number) (r .field) (1 ∷ 11 ∷ 2 ∷ 4 ∷ 5 ∷ 6 ∷ []) → a ≡ unselected r → Decided a
     later : InOrder → (l : ContractList) → listRead n list ≡ gotList l → a ≡ answer (chosen (choice day operator file l)) → Decided a
 
   decided : Decided s
@@ -66,11 +66,11 @@ module _ (list file : List ℕ) (n day operator : ℕ) where
       out : (a b c d : Bool) → ListRead → Selected
       out a b c d r = answer (needs (a && b) 1 (needs (c && d) 11 (rest (attempted r))))
 
-      short : Refusing 1 (1 ∷ 11 ∷ 2 ∷ 4 ∷ 5 ∷ 6 ∷ [])
-      short = record { some = λ z. omega arith; listed = refl }
+      short : Refusing 1 0 (1 ∷ 11 ∷ 2 ∷ 4 ∷ 5 ∷ 6 ∷ [])
+      short = record { some = λ z. omega arith; listed = refl; named = refl }
 
-      beyond : Refusing 11 (1 ∷ 11 ∷ 2 ∷ 4 ∷ 5 ∷ 6 ∷ [])
-      beyond = record { some = λ z. omega arith; listed = refl }
+      beyond : Refusing 11 0 (1 ∷ 11 ∷ 2 ∷ 4 ∷ 5 ∷ 6 ∷ [])
+      beyond = record { some = λ z. omega arith; listed = refl; named = refl }
 
       go : (a b c d : Bool) → eqb (length list) 29 ≡ a → eqb (length file) (29 * n) ≡ b → leb day 16383 ≡ c → leb operator 255 ≡ d
           → {r : ListRead} → listRead n list ≡ r → ComesTo gotList noList (1 ∷ 11 ∷ 2 ∷ 4 ∷ 5 ∷ 6 ∷ []) r → Decided (out a b c d r)
@@ -213,7 +213,7 @@ module _ (list file : List ℕ) (n day operator : ℕ) where
       from : (l : ContractList) → s ≡ answer (chosen (choice day operator file l))
           → Came (eligible day operator file) 1 nobody (counted l) (choice day operator file l)
           → ComesTo chosenOf unselected (1 ∷ 11 ∷ 2 ∷ 4 ∷ 5 ∷ 6 ∷ 8 ∷ []) s
-      from l is (kept same over) = rw (none (choice day operator file l) is same) (stops (refusal 8 0) refl refl)
+      from l is (kept same over) = rw (none (choice day operator file l) is same) (stops (refusal 8 0) refl refl refl)
       from l is (taken j h same fit under least) =
           rw (one j (nth (counted l) j) (choice day operator file l) is same) (fine (1 + j, nth (counted l) j))
 

@@ -50,16 +50,16 @@ partOf file s = pick (eqb (s .refusal .number) 0) (recordAt file (s .pointer)) [
 -- A list that was read gets a priority changed: 11 where it has no such position.
 abbrev pub changed : ℕ → ℕ → ℕ → List ℕ → ContractList → Written
 changed n position code before l =
-    pick (ltb (l .count) position) (denied 11 0 before) (listWritten n (withPriority position code l) before)
+    pick (ltb (l .count) position) (denied (refusal 11 0) before) (listWritten n (withPriority position code l) before)
 
 abbrev pub settled : List ℕ → (ContractList → Written) → Attempt ContractList → Written
 settled before more (got l) = more l
-settled before more (stopped r) = denied (r .number) (r .place) before
+settled before more (stopped r) = denied r before
 
 -- Change of a priority: 1; 11 for position 0, code 13 or a code above 15; the list's own; 11 for a position above the count.
 unfoldable pub changing : List ℕ → ℕ → ℕ → ℕ → Written
 changing before n position code =
     pick (eqb (length before) 29)
-    (pick (eqb position 0 || eqb code 13 || ltb 15 code) (denied 11 0 before)
+    (pick (eqb position 0 || eqb code 13 || ltb 15 code) (denied (refusal 11 0) before)
     (settled before (changed n position code before) (attempted (listRead n before))))
-    (denied 1 0 before)
+    (denied (refusal 1 0) before)

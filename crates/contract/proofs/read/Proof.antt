@@ -17,12 +17,12 @@ returns-2 c = rw (eq-eqb _ _ (c .before .before .if1 .left), sym (c .before .kno
 returns-3 : tie.Need-returns-3
 returns-3 c =
     let rest = rest-none (c .before .before .before .before .before .before .before .before .before .before .before .words2 .last .1 .0) (c .before .before .before .before .before .before .before .before .before .before .before .before .before .before .before .before .before .args .kind) (c .before .before .before .before .before .before .before .before .before .take-head .result .value) _ (c .before .before .before .before .before .before .before .before .before .take-head .ensures) (sym (c .before .before .before .before .before .before .follow .ensures) ∙ not-true _ (c .before .before .before .before .before .if3 .taken)) in
-    told-refused (c .before .before .before .before .before .before .before .before .before .before .before .before .before .before .before .before .before .args .kind) (c .before .before .before .before .before .before .before .before .before .before .before .before .before .before .before .before .before .args .bytes .now) (c .before .before .before .before .before .before .before .before .before .before .before .words2 .last .1 .0) (headNumbers (c .before .before .before .before .before .before .before .before .before .take-head .result .value) ++ rest .behind) (c .before .before .before .before .before .before .before .before .before .take-head .result .last) (c .before .before .before .end .result) (c .before .before .before .before .before .before .before .before .before .before .before .before .before .before .before .if1 .left) (sym (c .before .before .before .before .before .before .before .before .before .before .before .before .before .before .known .ensures) ∙ not-false _ (c .before .before .before .before .before .before .before .before .before .before .before .before .before .if2 .left)) (c .before .before .before .before .before .before .before .before .before .before .before .words2 .ensures) (rest .taken) (c .before .before .before .end .ensures) _ (c .refused .ensures) (c .before .if4 .taken)
+    told-refused (c .before .before .before .before .before .before .before .before .before .before .before .before .before .before .before .before .before .args .kind) (c .before .before .before .before .before .before .before .before .before .before .before .before .before .before .before .before .before .args .bytes .now) (c .before .before .before .before .before .before .before .before .before .before .before .words2 .last .1 .0) (headNumbers (c .before .before .before .before .before .before .before .before .before .take-head .result .value) ++ rest .behind) (rest .last) (c .before .before .before .end .result) (c .before .before .before .before .before .before .before .before .before .before .before .before .before .before .before .if1 .left) (sym (c .before .before .before .before .before .before .before .before .before .before .before .before .before .before .known .ensures) ∙ not-false _ (c .before .before .before .before .before .before .before .before .before .before .before .before .before .if2 .left)) (c .before .before .before .before .before .before .before .before .before .before .before .words2 .ensures) (rest .taken) (rest .ended _ (c .before .before .before .end .ensures)) _ (c .refused .ensures) (c .before .if4 .taken)
 
 returns-4 : tie.Need-returns-4
 returns-4 c =
     let rest = rest-none (c .before .before .before .before .before .before .before .before .before .before .before .words2 .last .1 .0) (c .before .before .before .before .before .before .before .before .before .before .before .before .before .before .before .before .before .args .kind) (c .before .before .before .before .before .before .before .before .before .take-head .result .value) _ (c .before .before .before .before .before .before .before .before .before .take-head .ensures) (sym (c .before .before .before .before .before .before .follow .ensures) ∙ not-true _ (c .before .before .before .before .before .if3 .taken)) in
-    told-read (c .before .before .before .before .before .before .before .before .before .before .before .before .before .before .before .before .before .args .kind) (c .before .before .before .before .before .before .before .before .before .before .before .before .before .before .before .before .before .args .bytes .now) (c .before .before .before .before .before .before .before .before .before .before .before .words2 .last .1 .0) (headNumbers (c .before .before .before .before .before .before .before .before .before .take-head .result .value) ++ rest .behind) (c .before .before .before .before .before .before .before .before .before .take-head .result .last) (c .before .before .before .end .result) (c .before .before .before .before .before .before .before .before .before .before .before .before .before .before .before .if1 .left) (sym (c .before .before .before .before .before .before .before .before .before .before .before .before .before .before .known .ensures) ∙ not-false _ (c .before .before .before .before .before .before .before .before .before .before .before .before .before .if2 .left)) (c .before .before .before .before .before .before .before .before .before .before .before .words2 .ensures) (rest .taken) (c .before .before .before .end .ensures)
+    told-read (c .before .before .before .before .before .before .before .before .before .before .before .before .before .before .before .before .before .args .kind) (c .before .before .before .before .before .before .before .before .before .before .before .before .before .before .before .before .before .args .bytes .now) (c .before .before .before .before .before .before .before .before .before .before .before .words2 .last .1 .0) (headNumbers (c .before .before .before .before .before .before .before .before .before .take-head .result .value) ++ rest .behind) (rest .last) (c .before .before .before .end .result) (c .before .before .before .before .before .before .before .before .before .before .before .before .before .before .before .if1 .left) (sym (c .before .before .before .before .before .before .before .before .before .before .before .before .before .before .known .ensures) ∙ not-false _ (c .before .before .before .before .before .before .before .before .before .before .before .before .before .if2 .left)) (c .before .before .before .before .before .before .before .before .before .before .before .words2 .ensures) (rest .taken) (rest .ended _ (c .before .before .before .end .ensures))
     _ (c .with-data .ensures ∙ sym (made-none (c .before .before .before .before .before .before .before .before .before .before .before .before .before .before .before .before .before .args .kind) (c .before .before .before .before .before .before .before .before .before .take-head .result .value) (rest .behind) (sym (c .before .before .before .before .before .before .follow .ensures) ∙ not-true _ (c .before .before .before .before .before .if3 .taken)))) (c .before .if4 .left)
 
 end-requires-2 : tie.Need-end-requires-2

@@ -1,6 +1,6 @@
 use mathlib.Core.Path.{refl, sym, _∙_}
 use borrow.Author.Tests.{eq-eqb, ne-eqb, not-true, not-false}
-use Rattle.contract.proofs.Writing.{contract-written, contract-denied}
+use Rattle.contract.proofs.Writing.{contract-written}
 use borrow.Author.Needs.{needs}
 use Rattle.contract.proofs.write.Statement.{statement}
 use Rattle.contract.proofs.write.Tie as tie
@@ -13,13 +13,8 @@ returns-2 c = rw (eq-eqb _ _ (c .before .before .if1 .left), sym (c .before .kno
 
 returns-3 : tie.Need-returns-3
 returns-3 c =
-    let there = sym (c .before .before .before .before .before .before .before .before .before .before .before .known .ensures) ∙ not-false _ (c .before .before .before .before .before .before .before .before .before .before .if2 .left) in
-    contract-written _ _ _ _ _ _ _ (c .before .before .before .before .before .before .before .before .before .before .before .before .if1 .left) there refl (c .before .before .before .before .before .before .before .before .put-fields .ensures) (c .before .before .before .before .end .ensures) (c .if3 .taken)
-
-returns-4 : tie.Need-returns-4
-returns-4 c =
-    let there = sym (c .before .before .before .before .before .before .before .before .before .before .before .known .ensures) ∙ not-false _ (c .before .before .before .before .before .before .before .before .before .before .if2 .left) in
-    contract-denied _ _ _ _ _ _ _ (c .before .before .before .before .before .before .before .before .before .before .before .before .if1 .left) there refl (c .before .before .before .before .before .before .before .before .put-fields .ensures) (c .before .before .before .before .end .ensures) (c .if3 .left)
+    let there = sym (c .before .before .before .before .before .before .before .before .before .before .known .ensures) ∙ not-false _ (c .before .before .before .before .before .before .before .before .before .if2 .left) in
+    rw (c .met .ensures) (contract-written _ _ _ _ _ _ _ (c .before .before .before .before .before .before .before .before .before .before .before .if1 .left) there refl (c .before .before .before .before .before .before .before .put-fields .ensures) (c .before .before .before .end .ensures))
 
 pub write-spec : {M : Type 1} → statement M
 write-spec =
@@ -32,7 +27,6 @@ write-spec =
     (λ c κs. search needs)
     (λ c. search needs)
     (λ c κs. search needs)
+    (λ c κs. search needs)
     (λ c. search needs)
-    returns-3
-    (λ c. search needs)
-    returns-4)
+    returns-3)

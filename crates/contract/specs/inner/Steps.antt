@@ -13,7 +13,7 @@ use Rattle.contract.specs.declared.Contract.{Contract}
 
 -- A cursor behind the head, where the data do not agree.
 abbrev pub disagreed : Cursor → Cursor
-disagreed e = pick (eqb (e .why) 0) (record { at = e .at; why = 7; number = 0 }) e
+disagreed e = pick (eqb (e .why) 0) (record { at = e .at; why = 7; field = 10; number = 0 }) e
 
 -- The puts of the head alone, for data that do not agree.
 pub record PutHead (c : Contract) (xs : List ℕ) (d : Cursor) : Type 0 where

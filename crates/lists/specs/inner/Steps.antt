@@ -13,7 +13,7 @@ use Rattle.rows.specs.declared.Rule.the-variants.{Any, Tariff}
 
 -- After all else a cursor stands at the entry at fault, with 6; 0 for none.
 abbrev pub obeyed : Cursor → ℕ → Cursor
-obeyed c k = pick (eqb (c .why) 0) (pick (eqb k 0) c (record { at = k; why = 6; number = 0 })) c
+obeyed c k = pick (eqb (c .why) 0) (pick (eqb k 0) c (record { at = k; why = 6; field = 0; number = 0 })) c
 
 -- What the takes of an entry give, the count and the entries before it being seen, so many numbers.
 pub record EntryTook (words : List ℕ) (rows : List Row) (n count : ℕ) (c : Cursor) (vs : List ℕ) (d : Cursor) : Type 0 where

@@ -1,7 +1,8 @@
 use Rattle.loading.specs.Loading.{Lent, lengthsOf}
 use Rattle.loading.specs.inner.Unread.{unread}
 use Rattle.loading.proofs.Ending.{Card, unread-none, place-inside, refused-unread, refused-list, refused-events, refused-contract, loads}
-use mathlib.Core.Path.{_≡_, refl, sym, _∙_}
+use mathlib.Core.Path.{_≡_, refl, sym, ap, _∙_}
+use Rattle.records.specs.declared.Refusal.{Refusal}
 use Rattle.contract.proofs.Telling.{contract-one}
 use borrow.Author.Needs.{needs}
 use Rattle.loading.proofs.load.Statement.{statement}
@@ -18,46 +19,49 @@ lentOf s =
     }
 
 -- Where nothing was refused unread, lengths and limits agree.
-cardOf : (s : tie.Start) → unread (s .args .order) (lengthsOf (s .args .list .now) (s .args .file .now) (lentOf s)) ≡ 0
+cardOf : (s : tie.Start) → unread (s .args .order) (lengthsOf (s .args .list .now) (s .args .file .now) (lentOf s)) .number ≡ 0
     → Card (s .args .order) (s .args .list .now) (s .args .file .now) (lentOf s)
 cardOf s = unread-none (s .args .order) (s .args .list .now) (s .args .file .now) (lentOf s)
 
+clear : {r s : Refusal} → r ≡ s → r .number ≡ 0 → s .number ≡ 0
+clear same none = ap (λ (r : Refusal). r .number) (sym same) ∙ none
+
 returns : tie.Need-returns
-returns c = rw (c .refused .ensures) (refused-unread _ _ _ _ _ (c .before .before .refused-unread .ensures) (c .before .if1 .taken))
+returns c = rw (c .refused .ensures) (refused-unread _ _ _ _ _ (c .before .before .before .refused-unread .ensures) (c .before .if1 .taken))
 
 returns-2 : tie.Need-returns-2
 returns-2 c =
-    let card = cardOf (c .before .before .before .before .before .before .before .before .before .before .before .before .before) (sym (c .before .before .before .before .before .before .refused-unread .ensures) ∙ c .before .before .before .before .before .if1 .left) in
+    let card = cardOf (c .before .before .before .before .before .before .before .before .before .before .before .before .before .before) (clear (c .before .before .before .before .before .before .before .refused-unread .ensures) (c .before .before .before .before .before .if1 .left)) in
     rw (c .refused2 .ensures) (refused-list _ _ _ _ card _ (c .before .before .before .read .ensures) (c .before .if2 .taken))
 
 mark-all-requires : tie.Need-mark-all-requires
 mark-all-requires c κs =
-    let card = cardOf (c .before .before .before .before .before .before .before .before .before .before .before .before .before) (sym (c .before .before .before .before .before .before .refused-unread .ensures) ∙ c .before .before .before .before .before .if1 .left) in
+    let card = cardOf (c .before .before .before .before .before .before .before .before .before .before .before .before .before .before) (clear (c .before .before .before .before .before .before .before .refused-unread .ensures) (c .before .before .before .before .before .if1 .left)) in
     (refl, card .records-long)
 
 returns-3 : tie.Need-returns-3
 returns-3 c =
-    let card = cardOf (c .before .before .before .before .before .before .before .before .before .before .before .before .before .before .before .before .before .before) (sym (c .before .before .before .before .before .before .before .before .before .before .before .refused-unread .ensures) ∙ c .before .before .before .before .before .before .before .before .before .before .if1 .left) in
+    let card = cardOf (c .before .before .before .before .before .before .before .before .before .before .before .before .before .before .before .before .before .before .before) (clear (c .before .before .before .before .before .before .before .before .before .before .before .before .refused-unread .ensures) (c .before .before .before .before .before .before .before .before .before .before .if1 .left)) in
     rw (c .refused3 .ensures) (refused-events _ _ _ _ card _ (c .before .before .before .before .before .before .before .before .read .ensures) (c .before .before .before .before .before .before .if2 .left) (c .before .before .before .before .mark-all .ensures) (c .before .if3 .taken))
 
 place-requires : tie.Need-place-requires
 place-requires c κs =
-    let card = cardOf (c .before .before .before .before .before .before .before .before .before .before .before .before .before .before .before .before .before .before .before .before .before .before) (sym (c .before .before .before .before .before .before .before .before .before .before .before .before .before .before .before .refused-unread .ensures) ∙ c .before .before .before .before .before .before .before .before .before .before .before .before .before .before .if1 .left) in
+    let card = cardOf (c .before .before .before .before .before .before .before .before .before .before .before .before .before .before .before .before .before .before .before .before .before .before .before) (clear (c .before .before .before .before .before .before .before .before .before .before .before .before .before .before .before .before .refused-unread .ensures) (c .before .before .before .before .before .before .before .before .before .before .before .before .before .before .if1 .left)) in
     (c .before .before .before .before .before .before .before .before .mark-all .ensures .long, card .most, card .counters)
 
 store-requires : tie.Need-store-requires
 store-requires c κs =
-    let card = cardOf (c .before .before .before .before .before .before .before .before .before .before .before .before .before .before .before .before .before .before .before .before .before .before .before .before .before) (sym (c .before .before .before .before .before .before .before .before .before .before .before .before .before .before .before .before .before .before .refused-unread .ensures) ∙ c .before .before .before .before .before .before .before .before .before .before .before .before .before .before .before .before .before .if1 .left) in
+    let card = cardOf (c .before .before .before .before .before .before .before .before .before .before .before .before .before .before .before .before .before .before .before .before .before .before .before .before .before .before) (clear (c .before .before .before .before .before .before .before .before .before .before .before .before .before .before .before .before .before .before .before .refused-unread .ensures) (c .before .before .before .before .before .before .before .before .before .before .before .before .before .before .before .before .before .if1 .left)) in
     place-inside _ _ _ _ card _ _ _ (c .before .before .place .ensures)
 
 returns-4 : tie.Need-returns-4
 returns-4 c =
-    let card = cardOf (c .before .before .before .before .before .before .before .before .before .before .before .before .before .before .before .before .before .before .before .before .before .before .before .before .before .before .before .before .before .before) (sym (c .before .before .before .before .before .before .before .before .before .before .before .before .before .before .before .before .before .before .before .before .before .before .before .refused-unread .ensures) ∙ c .before .before .before .before .before .before .before .before .before .before .before .before .before .before .before .before .before .before .before .before .before .before .if1 .left) in
-    c .before .before .before .before .store .ensures ∙ loads _ _ _ _ card _ (c .before .before .before .before .before .before .before .before .before .before .before .before .before .before .before .before .before .before .before .before .read .ensures) (c .before .before .before .before .before .before .before .before .before .before .before .before .before .before .before .before .before .before .if2 .left) (c .before .before .before .before .before .before .before .before .before .before .before .before .before .before .before .before .mark-all .ensures) (c .before .before .before .before .before .before .before .before .before .before .before .before .before .if3 .left) _ _ (sym (contract-one _ _ (c .before .before .before .before .before .before .before .before .before .before .before .before .read2 .ensures)) ∙ c .before .before .before .before .before .before .before .before .before .before .contract .given .1) (λ i. c .before .before .before .before .before .before .before .before .before .before .before .before .before .before .before .before .before .before .before .before .before .before .before .before .shared-slice-known4 .given i .fits) (c .before .before .before .before .before .before .before .place .ensures)
+    let card = cardOf (c .before .before .before .before .before .before .before .before .before .before .before .before .before .before .before .before .before .before .before .before .before .before .before .before .before .before .before .before .before .before .before) (clear (c .before .before .before .before .before .before .before .before .before .before .before .before .before .before .before .before .before .before .before .before .before .before .before .before .refused-unread .ensures) (c .before .before .before .before .before .before .before .before .before .before .before .before .before .before .before .before .before .before .before .before .before .before .if1 .left)) in
+    c .before .before .before .before .store .ensures ∙ loads _ _ _ _ card _ (c .before .before .before .before .before .before .before .before .before .before .before .before .before .before .before .before .before .before .before .before .read .ensures) (c .before .before .before .before .before .before .before .before .before .before .before .before .before .before .before .before .before .before .if2 .left) (c .before .before .before .before .before .before .before .before .before .before .before .before .before .before .before .before .mark-all .ensures) (c .before .before .before .before .before .before .before .before .before .before .before .before .before .if3 .left) _ _ (sym (contract-one _ _ (c .before .before .before .before .before .before .before .before .before .before .before .before .read2 .ensures)) ∙ c .before .before .before .before .before .before .before .before .before .before .contract .given .1) (λ i. c .before .before .before .before .before .before .before .before .before .before .before .before .before .before .before .before .before .before .before .before .before .before .before .before .before .shared-slice-known4 .given i .fits) (c .before .before .before .before .before .before .before .place .ensures)
 
 returns-5 : tie.Need-returns-5
 returns-5 c =
-    let card = cardOf (c .before .before .before .before .before .before .before .before .before .before .before .before .before .before .before .before .before .before .before .before .before .before) (sym (c .before .before .before .before .before .before .before .before .before .before .before .before .before .before .before .refused-unread .ensures) ∙ c .before .before .before .before .before .before .before .before .before .before .before .before .before .before .if1 .left) in
+    let card = cardOf (c .before .before .before .before .before .before .before .before .before .before .before .before .before .before .before .before .before .before .before .before .before .before .before) (clear (c .before .before .before .before .before .before .before .before .before .before .before .before .before .before .before .before .refused-unread .ensures) (c .before .before .before .before .before .before .before .before .before .before .before .before .before .before .if1 .left)) in
     rw (c .refused4 .ensures) (refused-contract _ _ _ _ card _ (c .before .before .before .before .before .before .before .before .before .before .before .before .read .ensures) (c .before .before .before .before .before .before .before .before .before .before .if2 .left) (c .before .before .before .before .before .before .before .before .mark-all .ensures) (c .before .before .before .before .before .if3 .left) _ (sym (contract-one _ _ (c .before .before .before .before .read2 .ensures)) ∙ c .before .before .refusal .given .1))
 
 pub load-spec : {M : Type 1} → statement M

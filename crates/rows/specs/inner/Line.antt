@@ -1,6 +1,6 @@
 -- A straight line of takes or puts, a step a row: what a reader or writer in code is. (proofs/Running.antt has the laws that
 -- such a line is the reading or the writing of its table.)
-use Prim.Native.Nat.{ℕ}
+use Prim.Native.Nat.{ℕ, _-_}
 use mathlib.Core.List.{List, [], _∷_, _++_}
 use lib.Dec.{eqb}
 use lib.ListN.{length, take, drop}
@@ -12,7 +12,7 @@ use Rattle.rows.specs.declared.Rule.{Rule}
 
 -- A cursor at the first bit.
 abbrev pub start : Cursor
-start = record { at = 0; why = 0; number = 0 }
+start = record { at = 0; why = 0; field = 0; number = 0 }
 
 infixr 20 _▸_
 infixr 20 _◂_
@@ -47,4 +47,4 @@ pub record Given (room : ℕ) (vals : List ℕ) (rows : List Row) (seen xs : Lis
 
 -- What a cursor says at the end.
 abbrev pub tells : {A : Type 0} → Cursor → A → Outcome A
-tells c a = pick (eqb (c .why) 0) (done a (c .at)) (refused (c .why) (c .at) 0)
+tells c a = pick (eqb (c .why) 0) (done a (c .at)) (refused (c .why) (c .at) (c .field - 1))

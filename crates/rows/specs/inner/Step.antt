@@ -1,5 +1,5 @@
 -- What the steps of a reader or writer in code mean: a cursor stands for the answer still to come.
-use Prim.Native.Nat.{ℕ, zero, suc, _+_, _*_, _/_, _^_, _<_, _≤_}
+use Prim.Native.Nat.{ℕ, zero, suc, _+_, _-_, _*_, _/_, _%_, _^_, _<_, _≤_}
 use mathlib.Core.List.{List, [], _∷_, _++_}
 use mathlib.Core.Bool.{Bool, false}
 use mathlib.Core.Path.{_≡_}
@@ -13,26 +13,33 @@ use Rattle.rows.specs.declared.Cursor.{Cursor}
 use Rattle.rows.specs.declared.When.{When}
 use Rattle.rows.specs.declared.Rule.{Rule}
 
--- A cursor at the field at bit at, of width bits: past it, or at its first fault.
-abbrev pub settled : ℕ → ℕ → ℕ → ℕ → Cursor
-settled at width n v = pick (eqb n 0) (record { at = at + width; why = 0; number = v }) (record { at = at; why = n; number = v })
+-- So many fields more, counted in 32 bits.
+abbrev pub further : ℕ → ℕ → ℕ
+further fields i = (i + fields) % 2 ^ 32
+
+-- A cursor that has come to its field and stays there, refused with n, and one that goes on behind some fields.
+abbrev pub stays : Cursor → ℕ → ℕ → Cursor
+stays c n v = record { at = c .at; why = n; field = further 1 (c .field); number = v }
+
+abbrev pub passes : Cursor → ℕ → ℕ → ℕ → Cursor
+passes c fields width v = record { at = c .at + width; why = 0; field = further fields (c .field); number = v }
+
+-- A cursor at a field of width bits: past it, or at its first fault.
+abbrev pub settled : Cursor → ℕ → ℕ → ℕ → Cursor
+settled c width n v = pick (eqb n 0) (passes c 1 width v) (stays c n v)
 
 -- One field: after a refusal nothing moves.
 abbrev pub admitted : Cursor → ℕ → ℕ → Bool → ℕ → ℕ → Cursor
 admitted c room width wide ruled v =
     pick (eqb (c .why) 0)
-    (settled (c .at) width (fault wide (c .at + width) room ruled) v)
-    (record { at = c .at; why = c .why; number = v })
+    (settled c width (fault wide (c .at + width) room ruled) v)
+    (record { at = c .at; why = c .why; field = c .field; number = v })
 
--- An outcome without the row at fault, which the code does not tell.
-abbrev pub said : {A : Type 0} → Outcome A → Outcome A
-said (done a end) = done a end
-said (refused n at i) = refused n at 0
-
--- The answer still to come: what the rows from i on come to after the numbers seen, or the refusal met before.
-unfoldable pub resume : ℕ → Source → List Row → ℕ → List ℕ → Cursor → Outcome (List ℕ)
-resume room from rs i seen c =
-    pick (eqb (c .why) 0) (said (walk room from rs i seen (c .at))) (refused (c .why) (c .at) 0)
+-- The answer still to come: what the rows from here on come to after the numbers seen, or the refusal met before, at the last field
+-- that was come to.
+unfoldable pub resume : ℕ → Source → List Row → List ℕ → Cursor → Outcome (List ℕ)
+resume room from rs seen c =
+    pick (eqb (c .why) 0) (walk room from rs (c .field) seen (c .at)) (refused (c .why) (c .at) (c .field - 1))
 
 -- What a take asks: a place within the bits, and words for all of them.
 pub record Ready (words : List ℕ) (end : ℕ) (c : Cursor) : Type 0 where
@@ -40,17 +47,19 @@ pub record Ready (words : List ℕ) (end : ℕ) (c : Cursor) : Type 0 where
   pub covered : end / 32 < length words
 
 -- What a take of a field gives: the answer to come at the cursor before is the answer to come at the cursor after, with
--- the numbers taken behind those seen, whatever the rest of the table.
+-- the numbers taken behind those seen, whatever the rest of the table, if its fields can be counted in 32 bits.
 pub record Took (words : List ℕ) (end : ℕ) (c : Cursor) (t : When) (ws : List ℕ) (rule : Rule) (vs : List ℕ) (d : Cursor) : Type 0 where
   pub ready : Ready words end d
+  pub counted : d .field ≤ suc (c .field)
   pub step :
       (bs : List Bool)
       → length bs ≡ end
       → words ≡ cut 32 64 (length words) bs
-      → (k : Cond) (rs : List Row) (i : ℕ) (seen : List ℕ)
+      → (k : Cond) (rs : List Row) (seen : List ℕ)
       → told k seen ≡ t
-      → resume end (boxesAt bs) (record { boxes = ws; cond = k; rule = rule } ∷ rs) i seen c
-      ≡ resume end (boxesAt bs) rs (suc i) (seen ++ vs) d
+      → suc (c .field) < 2 ^ 32
+      → resume end (boxesAt bs) (record { boxes = ws; cond = k; rule = rule } ∷ rs) seen c
+      ≡ resume end (boxesAt bs) rs (seen ++ vs) d
 
 -- What the end of a reading gives: the answer, with 5 at the first one that is left.
 pub record Ended (words : List ℕ) (end : ℕ) (c d : Cursor) : Type 0 where
@@ -58,8 +67,8 @@ pub record Ended (words : List ℕ) (end : ℕ) (c d : Cursor) : Type 0 where
       (bs : List Bool)
       → length bs ≡ end
       → words ≡ cut 32 64 (length words) bs
-      → (i : ℕ) (seen : List ℕ)
-      → andThen (resume end (boxesAt bs) [] i seen c) (ending bs) ≡ pick (eqb (d .why) 0) (done seen (d .at)) (refused (d .why) (d .at) 0)
+      → (seen : List ℕ)
+      → andThen (resume end (boxesAt bs) [] seen c) (ending bs) ≡ pick (eqb (d .why) 0) (done seen (d .at)) (refused (d .why) (d .at) (d .field - 1))
 
 -- n numbers of w bits from bit at on.
 abbrev pub lettersAt : List ℕ → ℕ → ℕ → ℕ → List ℕ
@@ -82,12 +91,14 @@ pub record Drafted (draft : List ℕ) (room : ℕ) (c : Cursor) : Type 0 where
 pub record Gave (xs ys : List ℕ) (room : ℕ) (c : Cursor) (t : When) (ws : List ℕ) (rule : Rule) (vs : List ℕ) (d : Cursor) : Type 0 where
   pub ready : Drafted ys room d
   pub long : length ys ≡ length xs
+  pub counted : d .field ≤ suc (c .field)
   pub step :
-      (vals : List ℕ) (k : Cond) (rs : List Row) (i : ℕ) (seen : List ℕ)
+      (vals : List ℕ) (k : Cond) (rs : List Row) (seen : List ℕ)
       → told k seen ≡ t
       → take (length ws) (drop (length seen) vals) ≡ vs
-      → resume room (slotsOf vals) (record { boxes = ws; cond = k; rule = rule } ∷ rs) i seen c
-      ≡ resume room (slotsOf vals) rs (suc i) (seen ++ vs) d
+      → suc (c .field) < 2 ^ 32
+      → resume room (slotsOf vals) (record { boxes = ws; cond = k; rule = rule } ∷ rs) seen c
+      ≡ resume room (slotsOf vals) rs (seen ++ vs) d
   pub before : d .why ≡ 0 → c .why ≡ 0
   pub laid :
       d .why ≡ 0

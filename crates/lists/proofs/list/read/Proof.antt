@@ -30,10 +30,10 @@ at-most-requires c κs = let eight = eight-words (c .before .before .before .bef
 
 returns-3 : tie.Need-returns-3 Inv-loop μ-loop
 returns-3 c =
-    let a = c .before .before .before .before .before .before .before .before .before .before .before .args in
-    let inside = rw (c .before .before .before .before .before .before .before .before .outside .ensures) at (c .before .before .before .before .before .before .before .if2 .left) in
-    let head = c .before .before .before .at-most .ensures in
-    c .refused3 .ensures ∙ line-refused (a .bytes .now) (a .n) _ (c .before .before .before .before .before .before .before .before .before .if1 .left) inside (c .before .before .before .before .before .words2 .ensures) 0 _ _ (omega arith) (head ▸ taken) (head .ready) (c .before .if3 .taken)
+    let a = c .before .before .before .before .before .before .before .before .before .before .before .before .args in
+    let inside = rw (c .before .before .before .before .before .before .before .before .before .outside .ensures) at (c .before .before .before .before .before .before .before .before .if2 .left) in
+    let head = c .before .before .before .before .at-most .ensures in
+    c .refused3 .ensures ∙ rw (c .before .met .ensures) (line-refused (a .bytes .now) (a .n) _ (c .before .before .before .before .before .before .before .before .before .before .if1 .left) inside (c .before .before .before .before .before .before .words2 .ensures) 0 _ _ (omega arith) (head ▸ taken) (head .ready) (c .before .before .if3 .taken))
 
 start-requires : tie.Need-start-requires Inv-loop μ-loop
 start-requires c κs = limit-few _ (rw (c .before .before .before .before .before .before .before .outside .ensures) at (c .before .before .before .before .before .before .if2 .left))
@@ -51,7 +51,7 @@ take-entry-requires : tie.Need-take-entry-requires Inv-loop μ-loop
 take-entry-requires c κs = c .before .before .loop .inv .ready
 
 returns-4 : tie.Need-returns-4 Inv-loop μ-loop
-returns-4 c = c .refused4 .ensures ∙ sofar-refused (c .before .before .before .before .before .before .before .before .loop .inv) _ _ (c .before .before .before .before .before .take-entry .ensures) (c .before .before .before .before .before .before .before .loop-test .taken) (c .before .if4 .taken)
+returns-4 c = c .refused4 .ensures ∙ rw (c .before .met2 .ensures) (sofar-refused (c .before .before .before .before .before .before .before .before .before .loop .inv) _ _ (c .before .before .before .before .before .before .take-entry .ensures) (c .before .before .before .before .before .before .before .before .loop-test .taken) (c .before .before .if4 .taken))
 
 mul-entry : tie.Need-mul-entry Inv-loop μ-loop
 mul-entry c = omega (arith, c .before .before .before .before .before .before .before .loop .inv .few, c .before .before .before .before .before .before .loop-test .taken)
@@ -70,7 +70,7 @@ end-requires : tie.Need-end-requires Inv-loop μ-loop
 end-requires c κs = (c .before .before .loop .inv .ready, omega arith)
 
 returns-5 : tie.Need-returns-5 Inv-loop μ-loop
-returns-5 c = c .refused5 .ensures ∙ sofar-denied (c .before .before .before .before .before .before .before .loop .inv) (c .before .before .before .before .before .before .loop-test .left) _ _ (c .before .before .before .before .end .ensures) (c .before .before .before .obeyed .ensures) (c .before .if5 .taken)
+returns-5 c = c .refused5 .ensures ∙ rw (c .before .met3 .ensures) (sofar-denied (c .before .before .before .before .before .before .before .before .loop .inv) (c .before .before .before .before .before .before .before .loop-test .left) _ _ (c .before .before .before .before .before .end .ensures) (c .before .before .before .before .obeyed .ensures) (c .before .before .if5 .taken))
 
 returns-6 : tie.Need-returns-6 Inv-loop μ-loop
 returns-6 c = sofar-read (c .before .before .before .before .before .before .loop .inv) (c .before .before .before .before .before .loop-test .left) _ _ (c .before .before .before .end .ensures) (c .before .before .obeyed .ensures) (c .if5 .left)
@@ -90,11 +90,13 @@ read-spec =
     slice-aggregate-at-most
     at-most-requires
     (λ c κs. search needs)
+    (λ c κs. search needs)
     returns-3
     start-requires
     loop-holds
     slice-aggregate-take-entry
     take-entry-requires
+    (λ c κs. search needs)
     (λ c κs. search needs)
     returns-4
     (λ c. search needs)
@@ -106,6 +108,7 @@ read-spec =
     loop-again
     slice-aggregate-end
     end-requires
+    (λ c κs. search needs)
     (λ c κs. search needs)
     (λ c κs. search needs)
     returns-5

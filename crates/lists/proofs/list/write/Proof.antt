@@ -1,8 +1,10 @@
 use mathlib.Core.Path.{refl}
+use native.Mathlib.Omega.{arith}
 use Rattle.rows.specs.table.BestContracts.{contractList}
+use Rattle.rows.proofs.Tables.{list-rows}
 use Rattle.lists.specs.List.{listFault}
 use Rattle.lists.proofs.Lines.{limit-few}
-use Rattle.lists.proofs.Listing.{list-written, list-denied, list-unwritten, list-unwritten-outside}
+use Rattle.lists.proofs.Listing.{list-written, list-unwritten, list-unwritten-outside}
 use borrow.Author.Needs.{needs}
 use Rattle.lists.proofs.list.write.Statement.{statement}
 use Rattle.lists.proofs.list.write.Tie as tie
@@ -20,15 +22,12 @@ at-fault-requires c κs = limit-few _ (rw (c .before .before .before .before .ou
 
 returns-3 : tie.Need-returns-3
 unfolding contractList
-returns-3 c = let inside = rw (c .before .before .before .before .before .before .before .before .before .before .before .before .before .outside .ensures) at (c .before .before .before .before .before .before .before .before .before .before .before .before .if2 .left) in
-    let last = rw (c .before .before .before .before .before .before .before .before .at-fault .ensures) at (c .before .before .before .before .before .before .before .obeyed .ensures) in
-    list-written (listFault (c .before .before .before .before .before .before .before .before .before .before .before .before .before .before .before .before .args .n)) _ (contractList (c .before .before .before .before .before .before .before .before .before .before .before .before .before .before .before .before .args .n)) _ _ _ _ _ _ _ _ (c .before .before .before .before .before .before .before .before .before .before .before .before .before .before .if1 .left) inside refl refl (c .before .before .before .before .before .before .before .before .before .before .put-list .ensures) last (c .before .before .before .before .end .ensures) (c .if3 .taken)
-
-returns-4 : tie.Need-returns-4
-unfolding contractList
-returns-4 c = let inside = rw (c .before .before .before .before .before .before .before .before .before .before .before .before .before .outside .ensures) at (c .before .before .before .before .before .before .before .before .before .before .before .before .if2 .left) in
-    let last = rw (c .before .before .before .before .before .before .before .before .at-fault .ensures) at (c .before .before .before .before .before .before .before .obeyed .ensures) in
-    list-denied (listFault (c .before .before .before .before .before .before .before .before .before .before .before .before .before .before .before .before .args .n)) _ (contractList (c .before .before .before .before .before .before .before .before .before .before .before .before .before .before .before .before .args .n)) _ _ _ _ _ _ _ _ (c .before .before .before .before .before .before .before .before .before .before .before .before .before .before .if1 .left) inside refl refl (c .before .before .before .before .before .before .before .before .before .before .put-list .ensures) last (c .before .before .before .before .end .ensures) (c .if3 .left)
+returns-3 c =
+    let a = c .before .before .before .before .before .before .before .before .before .before .before .before .before .before .before .args in
+    let inside = rw (c .before .before .before .before .before .before .before .before .before .before .before .before .outside .ensures) at (c .before .before .before .before .before .before .before .before .before .before .before .if2 .left) in
+    let last = rw (c .before .before .before .before .before .before .before .at-fault .ensures) at (c .before .before .before .before .before .before .obeyed .ensures) in
+    rw (c .met .ensures)
+    (list-written (listFault (a .n)) _ (contractList (a .n)) _ _ _ _ _ _ _ _ (omega (arith, list-rows (a .n))) (c .before .before .before .before .before .before .before .before .before .before .before .before .before .if1 .left) inside refl refl (c .before .before .before .before .before .before .before .before .before .put-list .ensures) last (c .before .before .before .end .ensures))
 
 pub write-spec : {M : Type 1} → statement M
 write-spec =
@@ -43,7 +42,6 @@ write-spec =
     (λ c κs. search needs)
     (λ c. search needs)
     (λ c κs. search needs)
+    (λ c κs. search needs)
     (λ c. search needs)
-    returns-3
-    (λ c. search needs)
-    returns-4)
+    returns-3)

@@ -1,4 +1,6 @@
 use mathlib.Core.Path.{ap}
+use native.Mathlib.Omega.{arith}
+use Rattle.rows.proofs.Tables.{environment-rows}
 use Rattle.records.proofs.Answering.{record-read, record-refused, record-short}
 use Rattle.records.specs.Environment.{environmentTold}
 use borrow.Author.Needs.{needs}
@@ -9,10 +11,10 @@ returns : tie.Need-returns
 returns c = ap environmentTold (record-short _ _ _ _ (c .if1 .taken))
 
 returns-2 : tie.Need-returns-2
-returns-2 c = ap environmentTold (record-refused _ _ _ (c .before .before .before .before .before .before .before .before .before .before .before .args .bytes .now) _ _ _ _ (c .before .before .before .before .before .before .before .before .before .if1 .left) (c .before .before .before .before .before .before .before .words2 .ensures) (c .before .before .before .before .before .take-fields .ensures) (c .before .before .end .ensures) (c .if2 .taken))
+returns-2 c = rw (c .met .ensures) (ap environmentTold (record-refused _ _ _ (c .before .before .before .before .before .before .before .before .before .before .before .before .args .bytes .now) _ _ _ _ (omega (arith, environment-rows)) (c .before .before .before .before .before .before .before .before .before .before .if1 .left) (c .before .before .before .before .before .before .before .before .words2 .ensures) (c .before .before .before .before .before .before .take-fields .ensures) (c .before .before .before .end .ensures) (c .before .if2 .taken)))
 
 returns-3 : tie.Need-returns-3
-returns-3 c = ap environmentTold (record-read _ _ _ (c .before .before .before .before .before .before .before .before .before .before .before .before .args .bytes .now) _ _ _ _ (c .before .before .before .before .before .before .before .before .before .before .if1 .left) (c .before .before .before .before .before .before .before .before .words2 .ensures) (c .before .before .before .before .before .before .take-fields .ensures) (c .before .before .before .end .ensures) (c .before .if2 .left))
+returns-3 c = ap environmentTold (record-read _ _ _ (c .before .before .before .before .before .before .before .before .before .before .before .before .args .bytes .now) _ _ _ _ (omega (arith, environment-rows)) (c .before .before .before .before .before .before .before .before .before .before .if1 .left) (c .before .before .before .before .before .before .before .before .words2 .ensures) (c .before .before .before .before .before .before .take-fields .ensures) (c .before .before .before .end .ensures) (c .before .if2 .left))
 
 pub read-spec : {M : Type 1} → statement M
 read-spec =
@@ -23,6 +25,7 @@ read-spec =
     (λ c. search needs)
     (λ c κs. search needs)
     (λ c. search needs)
+    (λ c κs. search needs)
     (λ c κs. search needs)
     returns-2
     returns-3)
