@@ -35,7 +35,7 @@ class Drawing(model.Walk):
         self.random, self.fixed = random, fixed
         self.bits, self.place, self.value, self.fields = "", 0, {}, []
 
-    def field(self, name, widths, present=True, rule=None):
+    def step(self, name, widths, present, rule):
         numbers = self.numbers_for(name, widths, present, rule)
         self.value[name] = numbers
         self.fields.append(Field(name, widths, self.place, present))

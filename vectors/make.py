@@ -9,6 +9,7 @@ from pathlib import Path
 from random import Random
 
 import cards
+import fields
 import lines
 import model
 import records
@@ -42,37 +43,90 @@ POSSIBLE = {
     "join": {0, 1},
 }
 
+# Q-2: who walks over each structure, by itself or as a record of a card. A contract goes by its type.
+WALKS = {
+    "env": ("env.read", "env.write"),
+    "holder": ("holder.read", "holder.write"),
+    "event": ("event.read", "event.write", "load's journal", "load's records"),
+    "special": ("special.read", "special.write", "load"),
+    "list": ("list.read", "list.write", "select", "priority", "load"),
+    "contract 66": ("contract.read", "contract.write", "load"),
+    "contract 80": ("contract.read", "contract.write", "load"),
+    "new list": ("load",),
+}
+
+# Q-2: the fields that each number names, counted from 0 over the layouts of document 01. In the kept requests each is
+# named by all who walk there (with 7 by those that write); with any other number the field is 0.
+#
+# 2: the first field that can run past the end and those after it. Not among them are a profile count and a first
+#    profile's bitmap (11, 12) and a sixth entry's bitmap (21): no choice of elements before them leaves so few bits. A
+#    list that loading makes has whole entries, of 24 or 48 bits, so the new entry's network or tariff is at fault.
+# 3: the EnvData bitmap. A contract type is refused before any walk.
+# 4: the fields with a range.
+# 7: all fields but event [17], which has no number.
+NAMED = {
+    2: {
+        "holder": {*range(6, 11), *range(13, 41)},       # from the birth place, in an area of 29 bytes
+        "event": {*range(16, 36)},                       # from [13]; [17] is 20
+        "list": {19, 20, *range(22, 33)},                # from the fifth tariff
+        "contract 80": {*range(18, 45)},                 # from group [2]
+        "new list": {19, 22, 23, 26, 27, 30, 31},        # tariff 5; network and tariff 6, 7, 8
+    },
+    3: {
+        "env": {8},
+    },
+    4: {
+        "holder": {11, 31, 33, 34},                      # profile count; residence, work place, study place
+        "event": {1, 28, 32},                            # minute; [25]; [27]'s minute
+        "special": {0},                                  # count
+        "list": {0, 3, 7, 11, 15, 19, 23, 27, 31},       # count; the eight tariffs
+        "contract 66": {12},                             # sale minute
+        "contract 80": {42},                             # group [13]
+    },
+    7: {
+        "env": {*range(10)},
+        "holder": {*range(41)},
+        "event": {*range(36)} - {20},
+        "special": {*range(21)},
+        "list": {*range(33)},
+        "contract 66": {*range(18)},
+        "contract 80": {*range(45)},
+    },
+}
+
+TYPE_REFUSED = "3 0 0"
+
 
 def ask(request):
     return model.answer(request.encode())
 
 
 def check_samples():
-    """P1 to P13 and the second slip, as document 01 gives them."""
+    """P1 to P13 and the second slip, as document 01 gives them, with the field that Q-2 adds."""
     zeros, p2 = "0" * 58, cards.P2_LIST
-    assert ask(f"list.read {zeros} 4") == "0 0 0" + " 0" * 48                                              # P1
-    assert ask(f"list.read {p2} 4") == "0 0 3 6 0 0 16 6 1 6 0 2 16 9 2 6 0 2 5 15 3" + " 0" * 30          # P2
+    assert ask(f"list.read {zeros} 4") == "0 0 0 0" + " 0" * 48                                            # P1
+    assert ask(f"list.read {p2} 4") == "0 0 0 3 6 0 0 16 6 1 6 0 2 16 9 2 6 0 2 5 15 3" + " 0" * 30        # P2
     loaded = ask(cards.load_line(contract_list=p2, counters=4, key=2, priority=6)).split(" ")
-    assert loaded[:4] == ["0", "0", "4", "4C020C1C42122C40BE3C484C4" + "0" * 33]                           # P3
+    assert loaded[:5] == ["0", "0", "0", "4", "4C020C1C42122C40BE3C484C4" + "0" * 33]                      # P3
     assert loaded_pointers((1, 2, 5, 3, 6, 7, 8, 4), range(4, 9), 0) == (5, [1, 2, 3, 6, 7, 8, 4, 5])      # P4
     assert loaded_pointers((1, 2, 5, 3, 6, 7, 8, 4), range(4, 9), 1)[0] == 4                               # P5
-    assert ask("list.read 1C021A1" + "0" * 51 + " 4") == "4 7"                                             # P6
+    assert ask("list.read 1C021A1" + "0" * 51 + " 4") == "4 7 3"                                           # P6
     assert [contract_bits(groups) for groups in (0xD843, 0x810D, 0x0030)] == [207, 198, 142]               # P7
-    assert ask(f"event.read {cards.record(cards.bits((0, 25), (1 << 17, 28)))}") == "2 53"                 # P8
-    assert ask(f"event.read {cards.event(0, 1439)}") == "0 0 0 1439" + " 0" * 33                           # P9
-    assert ask(f"event.read {cards.event(0, 1440)}") == "4 14"
-    assert ask(f"list.read {zeros[2:]}01 4") == "5 231"                                                    # P10
-    assert ask(f"find 05{zeros[2:]} 07{zeros[2:]} {zeros}") == f"0 0 02{zeros[2:]}"                        # P11
-    assert ask(f"find 05{zeros[2:]} 06{zeros[2:]} {zeros}") == f"10 7 {zeros}"                             # P12
-    assert ask(cards.quiet_line(1, (100, 60), (100, 119))).startswith("9 0 0 ")                            # P13
-    assert ask(cards.quiet_line(1, (100, 60), (100, 120))).startswith("0 0 1 ")
+    assert ask(f"event.read {cards.record(cards.bits((0, 25), (1 << 17, 28)))}") == "2 53 20"              # P8
+    assert ask(f"event.read {cards.event(0, 1439)}") == "0 0 0 0 1439" + " 0" * 33                         # P9
+    assert ask(f"event.read {cards.event(0, 1440)}") == "4 14 1"
+    assert ask(f"list.read {zeros[2:]}01 4") == "5 231 0"                                                  # P10
+    assert ask(f"find 05{zeros[2:]} 07{zeros[2:]} {zeros}") == f"0 0 0 02{zeros[2:]}"                      # P11
+    assert ask(f"find 05{zeros[2:]} 06{zeros[2:]} {zeros}") == f"10 7 0 {zeros}"                           # P12
+    assert ask(cards.quiet_line(1, (100, 60), (100, 119))).startswith("9 0 0 0 ")                          # P13
+    assert ask(cards.quiet_line(1, (100, 60), (100, 120))).startswith("0 0 0 1 ")
     assert loaded_pointers((1, 2, 7, 3, 5, 6, 8, 4), range(5, 9), 0)[0] == 7                               # slip
 
 
 def loaded_pointers(listed, erasable, needs_counter):
     """The pointer taken and the pointers of the new list."""
-    refusal, place, pointer, new_list, _ = ask(cards.p4_line(listed, erasable, needs_counter)).split(" ")
-    assert (refusal, place) == ("0", "0")
+    *refusal, pointer, new_list, _ = ask(cards.p4_line(listed, erasable, needs_counter)).split(" ")
+    assert refusal == ["0", "0", "0"]
     numbers = model.read_contract_list(bytes.fromhex(new_list), 8)
     return int(pointer), [entry.pointer for entry in model.contract_entries(numbers)]
 
@@ -80,15 +134,16 @@ def loaded_pointers(listed, erasable, needs_counter):
 def contract_bits(groups):
     """How many bits a 50h contract takes: the place of a one that is put in the last bit but belongs to no field."""
     boxes = cards.bits((0b1100011, 7), (0, 8 + 16 + 8), (0, 14 + 14 + 16 + 2), (groups, 16))
-    refusal, place = ask(f"contract.read {cards.record(boxes.ljust(232, '1'))} 80").split(" ")
-    assert refusal == "5"
+    refusal, place, field = ask(f"contract.read {cards.record(boxes.ljust(232, '1'))} 80").split(" ")
+    assert (refusal, field) == ("5", "0")
     return int(place)
 
 
 def drawn_requests():
     """In order, each once."""
     random = Random(SEED)
-    return list(dict.fromkeys([*cards.requests(random), *records.requests(random)]))
+    made = [*cards.requests(random), *records.requests(random), *fields.requests(random)]
+    return list(dict.fromkeys(made))
 
 
 def check_round_trips(requests):
@@ -96,9 +151,9 @@ def check_round_trips(requests):
     for request in requests:
         name, record, *parameters = request.split(" ")
         answer = ask(request)
-        if name.endswith(".read") and answer.startswith("0 0 "):
-            writing = " ".join([name.replace("read", "write"), record, *parameters, answer.removeprefix("0 0 ")])
-            assert ask(writing) == f"0 0 {record}", request
+        if name.endswith(".read") and answer.startswith("0 0 0 "):
+            writing = " ".join([name.replace("read", "write"), record, *parameters, answer.removeprefix("0 0 0 ")])
+            assert ask(writing) == f"0 0 0 {record}", request
 
 
 def count_pairs(requests, answers):
@@ -114,6 +169,63 @@ def count_pairs(requests, answers):
 def check_pairs(pairs):
     given = {name: {number for other, number in pairs if other == name} for name in POSSIBLE}
     assert given == POSSIBLE, {name: given[name] ^ POSSIBLE[name] for name in POSSIBLE if given[name] != POSSIBLE[name]}
+
+
+def check_fields(requests, answers):
+    """Just those fields are named that `NAMED` has, all of them."""
+    given = {}
+    for request, answer in zip(requests, answers):
+        if answer != model.BAD_LINE:
+            number, _, field = first_three(answer)
+            if number in NAMED and not answer.startswith(TYPE_REFUSED):
+                given.setdefault((number, *walk_at_fault(request.decode(), answer)), set()).add(field)
+            else:
+                assert field == 0, request
+    expected = {(number, structure, who): named for number, structures in NAMED.items()
+                for structure, named in structures.items() for who in WALKS[structure]
+                if number != 7 or who.endswith(".write")}
+    assert given == expected, {key: (given.get(key), expected.get(key)) for key in given.keys() | expected.keys()
+                               if given.get(key) != expected.get(key)}
+
+
+def first_three(answer):
+    """Refusal, place and field."""
+    return tuple(int(word) for word in answer.split(" ")[:3])
+
+
+def walk_at_fault(request, answer):
+    """The structure at fault and who walks over it. Q-2: "Every operation that passes such a refusal on passes this
+    number on": the first record that does not read has the same three numbers when it is read by itself."""
+    name, *words = request.split(" ")
+    if name in ("contract.read", "contract.write"):
+        return f"contract {words[1]}", name
+    if "." in name:
+        return name.split(".")[0], name
+    for structure, who, reading in readings(name, words):
+        refused = ask(reading)
+        if not refused.startswith("0 "):
+            assert first_three(answer) == first_three(refused), request
+            return structure, who
+    return "new list", name
+
+
+def readings(name, words):
+    """What selection, change of priority or loading reads, in order."""
+    if name == "select":
+        return [("list", name, f"list.read {words[0]} {words[2]}")]
+    if name == "priority":
+        return [("list", name, f"list.read {words[0]} {words[1]}")]
+    contract_list, _, special_list, journal, special_events, new, positions, _, specials, _, _, _, _, kind, *_ = words
+    return [("list", name, f"list.read {contract_list} {positions}"),
+            ("special", name, f"special.read {special_list} {specials}"),
+            *[("event", "load's journal", f"event.read {record}") for record in split(journal)],
+            *[("event", "load's records", f"event.read {record}") for record in split(special_events)],
+            (f"contract {kind}", name, f"contract.read {new} {kind}")]
+
+
+def split(file):
+    """The records of a file, all in hex; the empty file is `-`."""
+    return [file[at:at + 58] for at in range(0, len(file), 58)] if file != "-" else []
 
 
 def print_counts(pairs):
@@ -138,6 +250,7 @@ def main(stdin=DEFAULT_STDIN, stdout=DEFAULT_STDOUT):
     answers = [model.answer(request) for request in requests]
     pairs = count_pairs(requests, answers)
     check_pairs(pairs)
+    check_fields(requests, answers)
     Path(stdin).write_bytes(b"\n".join(requests))          # the last line lacks its line feed
     Path(stdout).write_text("".join(answer + "\n" for answer in answers))
     print(f"{len(requests)} requests")

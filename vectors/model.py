@@ -1,4 +1,4 @@
-"""A plain model of the operations, written from document 01 and from nothing else.
+"""A plain model of the operations, written from document 01, from request Q-2 of document 02, and from nothing else.
 
 `answer(line)` takes one request line of REPLAY.md (bytes, without its line feed) and gives the answer line.
 
@@ -23,11 +23,11 @@ OWN_PROVIDER = 15                # operator key: the contract's provider decides
 
 
 class Refused(Exception):
-    """A refusal number and its place."""
+    """A refusal number, its place, and the field at fault. Q-2: "All other refusals return 0 there"."""
 
-    def __init__(self, number, place=0):
-        super().__init__(number, place)
-        self.number, self.place = number, place
+    def __init__(self, number, place=0, field=0):
+        super().__init__(number, place, field)
+        self.number, self.place, self.field = number, place, field
 
 
 # ---------------------------------------------------------------- Boxes and bitmaps
@@ -42,8 +42,18 @@ def to_bytes(bits):
 
 
 class Walk:
-    """What reading and writing share. `place` is the bit reached; `value` holds, by name and in card order, the list of
-    numbers of each field (one number, but the letters of a text and the three parts of a list tariff)."""
+    """What reading and writing share. `place` is the bit reached, `rank` the field reached; `value` holds, by name and
+    in card order, the list of numbers of each field (one number, but the letters of a text and the three parts of a
+    list tariff)."""
+
+    rank = 0                     # Q-2: "counted from 0"
+
+    def field(self, name, widths, present=True, rule=None):
+        """Q-2: "over all fields of the structure, present or not". The step is that of reading or of writing; a text
+        or a list tariff is one."""
+        numbers = self.step(name, widths, present, rule)
+        self.rank += 1
+        return numbers
 
     def number(self, name, width, present=True, rule=None):
         return self.field(name, [width], present, rule)[0]
@@ -59,17 +69,23 @@ class Walk:
             self.number(prefix + name, width, is_present, rule)
 
     def unboxed(self, width, present):
-        """A field that has no number in the value. Its width is more than any record leaves: 2, reading and writing."""
+        """A field that has no number in the value. Its width is more than any record leaves: 2, reading and writing.
+        It counts: "event [17] included"."""
         if present:
             self.check_room([width])
+        self.rank += 1
 
     def check_room(self, widths):
         if self.place + sum(widths) > self.size:
-            raise Refused(2, self.place)
+            self.refuse(2, self.place)
 
     def check_rule(self, numbers, rule, place):
         if rule and not rule.holds(*numbers):
-            raise Refused(rule.refusal, place)
+            self.refuse(rule.refusal, place)
+
+    def refuse(self, number, place):
+        """Q-2: "Refusals 2, 3, 4 and 7 met in a walk shall also return the field's number"."""
+        raise Refused(number, place, self.rank)
 
 
 class Reading(Walk):
@@ -77,7 +93,7 @@ class Reading(Walk):
     def __init__(self, record):
         self.bits, self.size, self.place, self.value = to_bits(record), 8 * len(record), 0, {}
 
-    def field(self, name, widths, present=True, rule=None):
+    def step(self, name, widths, present, rule):
         """At each field 2, 3, 4. An absent field is zero in the typed value."""
         numbers = [0] * len(widths)
         if present:
@@ -109,7 +125,7 @@ class Writing(Walk):
     def __init__(self, size, numbers):
         self.lent, self.bits, self.size, self.place = list(numbers), "", size, 0
 
-    def field(self, name, widths, present=True, rule=None):
+    def step(self, name, widths, present, rule):
         """At each field 7, 2, 3, 4."""
         numbers = [self.lent.pop(0) for _ in widths]
         self.check_width(numbers, widths if present else [0] * len(widths))
@@ -123,16 +139,17 @@ class Writing(Walk):
     def check_width(self, numbers, widths):
         """7: "number too wide, or not zero in an absent field". An absent field has no bits, so it holds zero only."""
         if any(number >> width for number, width in zip(numbers, widths)):
-            raise Refused(7, self.place)
+            self.refuse(7, self.place)
 
     def put(self, number, width):
         self.bits += f"{number:0{width}b}"
         self.place += width
 
     def tag(self, tag):
-        """7: "data that do not agree with bit [6] and the type given"; the walk stands after the head."""
+        """7: "data that do not agree with bit [6] and the type given". The walk stands after the head, whose fields are
+        0 to 8. Q-2: "contract data refused as a whole give 9"."""
         if self.lent.pop(0) != tag:
-            raise Refused(7, self.place)
+            self.refuse(7, self.place)
 
     def end(self):
         return to_bytes(self.bits.ljust(self.size, "0"))
@@ -221,7 +238,8 @@ def walk_holder(walk):
 
 
 def walk_profiles(walk, present):
-    """An uncounted profile is absent, its bitmap included."""
+    """An uncounted profile is absent, its bitmap included. Its fields are numbered all the same: Q-2: "for each one up
+    to the largest allowed"."""
     count = walk.number("profile count", 4, present, at_most(MOST_PROFILES))
     for index in range(MOST_PROFILES):
         prefix = f"profile {index + 1} "
@@ -754,7 +772,7 @@ DATA_WORDS = {NO_DATA: 0, TYPE_42: 9, TYPE_50: 36}
 
 
 def nothing(*lent):
-    """A read that is refused gives only the two numbers."""
+    """A read that is refused gives only the three numbers."""
     return []
 
 
@@ -835,7 +853,7 @@ def answer(line):
     except BadLine:
         return BAD_LINE
     try:
-        words = [0, 0] + operation.run(*lent)
+        words = [0, 0, 0] + operation.run(*lent)
     except Refused as refused:
-        words = [refused.number, refused.place] + operation.refused(*lent)
+        words = [refused.number, refused.place, refused.field] + operation.refused(*lent)
     return " ".join(to_word(word) for word in words)

@@ -11,6 +11,16 @@ from types import ModuleType
 
 from make import DEFAULT_STDIN, DEFAULT_STDOUT, HERE
 
+
+def nameless(line):
+    """A line of model.py that passes a refusal on without its field."""
+    return f"""    try:
+        {line}
+    except Refused as refused:
+        raise Refused(refused.number, refused.place)
+"""
+
+
 # What is wrong, the text of model.py that is right (it occurs once), the text in its place.
 MUTATIONS = [
     ("the first bitmap bit is element [0]",
@@ -34,8 +44,8 @@ MUTATIONS = [
             self.check_room(widths)
 """),
     ("a field that would begin past the end has the last bit as place",
-     "raise Refused(2, self.place)",
-     "raise Refused(2, min(self.place, self.size - 1))"),
+     "self.refuse(2, self.place)",
+     "self.refuse(2, min(self.place, self.size - 1))"),
     ("the bits after the last field are unchecked",
      "if one >= 0:",
      "if False:"),
@@ -50,18 +60,18 @@ MUTATIONS = [
      "self.check_rule(numbers, rule, place=self.place - widths[-1])"),
     ("a text's place is that of the letter at fault",
      """        if any(number >> width for number, width in zip(numbers, widths)):
-            raise Refused(7, self.place)
+            self.refuse(7, self.place)
 """,
      """        for index, (number, width) in enumerate(zip(numbers, widths)):
             if number >> width:
-                raise Refused(7, self.place + sum(widths[:index]))
+                self.refuse(7, self.place + sum(widths[:index]))
 """),
     ("data that do not agree have place 0",
      """        if self.lent.pop(0) != tag:
-            raise Refused(7, self.place)
+            self.refuse(7, self.place)
 """,
      """        if self.lent.pop(0) != tag:
-            raise Refused(7, 0)
+            self.refuse(7, 0)
 """),
     ("the minute of 50h has no limit",
      '("end minute", 11, MINUTE)',
@@ -203,6 +213,120 @@ MUTATIONS = [
     ("a line of 8,193 bytes is taken",
      "LONGEST_LINE = 8192",
      "LONGEST_LINE = 8193"),
+
+    # Q-2: the field's number
+    ("an absent field is not counted",
+     "self.rank += 1\n        return numbers",
+     "self.rank += present\n        return numbers"),
+    ("fields are counted from 1",
+     "    rank = 0 ",
+     "    rank = 1 "),
+    ("a tariff counts for three fields",
+     "self.rank += 1\n        return numbers",
+     "self.rank += 3 if len(widths) == 3 else 1\n        return numbers"),
+    ("a text counts a field for each letter",
+     "self.rank += 1\n        return numbers",
+     "self.rank += len(widths) if len(widths) > 3 else 1\n        return numbers"),
+    ("a letter too wide is named by its own number",
+     """        if any(number >> width for number, width in zip(numbers, widths)):
+            self.refuse(7, self.place)
+""",
+     """        for index, (number, width) in enumerate(zip(numbers, widths)):
+            if number >> width:
+                raise Refused(7, self.place, self.rank + index)
+"""),
+    ("a wrong priority is named by its own number",
+     "self.refuse(rule.refusal, place)",
+     "raise Refused(rule.refusal, place, self.rank + len(numbers) - 1)"),
+    ("EnvData2 is named, not its bitmap",
+     "self.refuse(rule.refusal, place)",
+     "raise Refused(rule.refusal, place, 10 if rule is NO_ENV_DATA_2 else self.rank)"),
+    ("bitmaps are not counted",
+     "        number = self.number(name, width, present, rule)\n",
+     "        number = self.number(name, width, present, rule)\n        self.rank -= 1\n"),
+    ("event [17] is not counted",
+     "            self.check_room([width])\n        self.rank += 1\n",
+     "            self.check_room([width])\n"),
+    ("a field past the end is named by the one before it",
+     "self.refuse(2, self.place)",
+     "raise Refused(2, self.place, self.rank - 1)"),
+    ("5 names the last field",
+     "raise Refused(5, one)",
+     "raise Refused(5, one, self.rank - 1)"),
+    ("5 gives the number of fields",
+     "raise Refused(5, one)",
+     "raise Refused(5, one, self.rank)"),
+    ("6 names the entry's bitmap",
+     "raise Refused(6, number)",
+     "raise Refused(6, number, 1 + (number - 1) * (4 if complete == LIST_COMPLETE else 5))"),
+    ("the type's 3 names the first field of the data",
+     "raise Refused(3)",
+     "raise Refused(3, 0, 9)"),
+    ("data that do not agree give 8",
+     """        if self.lent.pop(0) != tag:
+            self.refuse(7, self.place)
+""",
+     """        if self.lent.pop(0) != tag:
+            raise Refused(7, self.place, 8)
+"""),
+    ("data that do not agree give 0",
+     """        if self.lent.pop(0) != tag:
+            self.refuse(7, self.place)
+""",
+     """        if self.lent.pop(0) != tag:
+            raise Refused(7, self.place)
+"""),
+    ("a contract's data are counted from 0",
+     "    walk.tag(kind if data_follow else NO_DATA)\n",
+     "    walk.tag(kind if data_follow else NO_DATA)\n    walk.rank = 0\n"),
+    ("the validity bitmap is not counted",
+     """    inner = walk.bitmap("validity bitmap", 2, present[4])
+""",
+     """    inner = walk.bitmap("validity bitmap", 2, present[4])
+    walk.rank -= 1
+"""),
+    ("a group of 50h is one field",
+     "        walk.elements(group, [is_present] * len(group))\n",
+     "        walk.elements(group, [is_present] * len(group))\n        walk.rank -= len(group) - 1\n"),
+    ("an uncounted profile is not counted",
+     "        walk.elements(PROFILE, inner, prefix)\n",
+     "        walk.elements(PROFILE, inner, prefix)\n        walk.rank -= 0 if index < count else 4\n"),
+    ("an uncounted entry of the special event list is not counted",
+     "        walk.elements(SPECIAL_ENTRY, inner, prefix)\n",
+     "        walk.elements(SPECIAL_ENTRY, inner, prefix)\n        walk.rank -= 0 if index < count else 5\n"),
+    ("an uncounted entry of the contract list is not counted",
+     """        walk.number(prefix + "pointer", 5, inner[2])
+""",
+     """        walk.number(prefix + "pointer", 5, inner[2])
+        walk.rank -= 0 if index < count else 4
+"""),
+    ("selection drops the field",
+     """operator <= 255)
+    entries = contract_entries(read_contract_list(contract_list, positions))
+""",
+     "operator <= 255)\n" + nameless("entries = contract_entries(read_contract_list(contract_list, positions))")),
+    ("change of priority drops the field",
+     """    entries = contract_entries(read_contract_list(contract_list, positions))
+    require(position <= len(entries))
+""",
+     nameless("entries = contract_entries(read_contract_list(contract_list, positions))")
+     + "    require(position <= len(entries))\n"),
+    ("loading drops the field of the old list",
+     """    entries = contract_entries(read_contract_list(contract_list, positions))
+    listed_specials""",
+     nameless("entries = contract_entries(read_contract_list(contract_list, positions))") + "    listed_specials"),
+    ("loading drops the field of a journal event",
+     "    journal_events = read_events(journal)\n",
+     nameless("journal_events = read_events(journal)")),
+    ("loading drops the field of a special event",
+     "    special_events = read_events(records)\n",
+     nameless("special_events = read_events(records)")),
+    ("loading drops the field of the new contract",
+     "    read_contract(new, kind)\n",
+     nameless("read_contract(new, kind)")),
+    ("loading drops the field of a new list that does not fit",
+     "    new_list = write_contract_list(list_numbers(kept + [new_entry]), positions)\n",
+     nameless("new_list = write_contract_list(list_numbers(kept + [new_entry]), positions)")),
 ]
 
 UNCHANGED = "nothing", "LONGEST_LINE = 8192", "LONGEST_LINE = 8192"
