@@ -1,4 +1,7 @@
 //! The program of the yardstick: reads records by the library `cards.rs` and prints one number that every answer goes into.
+//! It starts as a C program does: the kit's emulator does not get through the start of a Rust program.
+
+#![no_main]
 
 use cards::{Contract, ContractList, Data, Data42, Data50, Kind, Refusal, read_contract, read_list};
 use std::io::{self, Read};
@@ -8,7 +11,7 @@ struct Digest(u64);
 impl Digest {
     fn accepted() -> Digest {
         let mut digest = Digest(1);
-        digest.add([0, 0]);
+        digest.add([0, 0, 0]);
         digest
     }
 
@@ -24,7 +27,7 @@ fn answer_digest<T>(answer: &Result<T, Refusal>, value_digest: fn(&T) -> u64) ->
         Ok(value) => value_digest(value),
         Err(refusal) => {
             let mut digest = Digest(1);
-            digest.add([refusal.number, refusal.place]);
+            digest.add([refusal.number, refusal.place, refusal.field]);
             digest.0
         }
     }
@@ -84,7 +87,7 @@ fn unit_digest(unit: &[u8]) -> u64 {
 
 /// Standard input: bytes in a unit and rounds, two bytes each and high first, then the units. A unit is an operation's
 /// number (0 contract list, 1 contract of type 42h, 2 of type 50h) and a record. Prints the sum of all digests.
-fn main() -> io::Result<()> {
+fn run() -> io::Result<()> {
     let mut input = Vec::new();
     io::stdin().read_to_end(&mut input)?;
     let Some((&[size_high, size_low, rounds_high, rounds_low], units)) = input.split_first_chunk() else {
@@ -100,4 +103,9 @@ fn main() -> io::Result<()> {
     }
     println!("{sum}");
     Ok(())
+}
+
+#[unsafe(no_mangle)]
+pub extern "C" fn main() -> i32 {
+    run().is_err().into()
 }

@@ -1,6 +1,6 @@
 //! The yardstick of `./bench`, a library: reads contract lists (N = 8) and contracts of types 42h and 50h as a careful Rust
-//! programmer would: field by field, each with its room and its rule, in the order of document 01. A record is copied once
-//! into a buffer with zeros after it; a field is cut out of the 64 bits from its byte on.
+//! programmer would: field by field, each with its rank, its room and its rule, in the order of document 01. A record is copied
+//! once into a buffer with zeros after it; a field is cut out of the 64 bits from its byte on.
 
 pub const RECORD: usize = 29;
 const RECORD_BITS: u32 = 232;
@@ -16,11 +16,12 @@ const LIST_RULE: u32 = 6;
 pub struct Refusal {
     pub number: u32,
     pub place: u32,
+    pub field: u32,
 }
 
 #[cold]
-fn refused<T>(number: u32, place: u32) -> Result<T, Refusal> {
-    Err(Refusal { number, place })
+fn refused<T>(number: u32, place: u32, field: u32) -> Result<T, Refusal> {
+    Err(Refusal { number, place, field })
 }
 
 // ---------------------------------------------------------------- Bits
@@ -48,24 +49,24 @@ impl Walk<'_> {
     }
 
     /// The next field, where it lies inside the record.
-    fn field(&mut self, width: u32) -> Result<u32, Refusal> {
+    fn field(&mut self, rank: u32, width: u32) -> Result<u32, Refusal> {
         if self.place + width > RECORD_BITS {
-            return refused(PAST_THE_END, self.place);
+            return refused(PAST_THE_END, self.place, rank);
         }
         let number = self.window() >> (64 - width);
         self.place += width;
         Ok(number as u32)
     }
 
-    fn field_if(&mut self, present: bool, width: u32) -> Result<u32, Refusal> {
-        if present { self.field(width) } else { Ok(0) }
+    fn field_if(&mut self, present: bool, rank: u32, width: u32) -> Result<u32, Refusal> {
+        if present { self.field(rank, width) } else { Ok(0) }
     }
 
-    fn minute_if(&mut self, present: bool) -> Result<u32, Refusal> {
+    fn minute_if(&mut self, present: bool, rank: u32) -> Result<u32, Refusal> {
         let place = self.place;
-        let minute = self.field_if(present, 11)?;
+        let minute = self.field_if(present, rank, 11)?;
         if minute > LAST_MINUTE {
-            return refused(OUT_OF_RANGE, place);
+            return refused(OUT_OF_RANGE, place, rank);
         }
         Ok(minute)
     }
@@ -76,7 +77,7 @@ impl Walk<'_> {
         while place < RECORD_BITS {
             let window = Walk { place, ..*self }.window();
             if window != 0 {
-                return refused(ONE_AFTER, place + window.leading_zeros());
+                return refused(ONE_AFTER, place + window.leading_zeros(), 0);
             }
             place = place / 8 * 8 + 64;
         }
@@ -114,14 +115,14 @@ const NO_POINTERS: u32 = !0b1_1111_1110;
 pub fn read_list(record: &[u8; RECORD]) -> Result<ContractList, Refusal> {
     let bytes = padded(record);
     let mut walk = Walk { bytes: &bytes, place: 0 };
-    let mut list = ContractList { count: walk.field(4)?, ..Default::default() };
+    let mut list = ContractList { count: walk.field(0, 4)?, ..Default::default() };
     let Some(counted) = list.entries.get_mut(..list.count as usize) else {
-        return refused(OUT_OF_RANGE, 0);
+        return refused(OUT_OF_RANGE, 0, 0);
     };
     let mut taken = NO_POINTERS;
     let mut broken = 0;
     for (number, entry) in (1..).zip(counted) {
-        read_entry(&mut walk, entry)?;
+        read_entry(&mut walk, 4 * number - 3, entry)?;
         if broken == 0 && (entry.bitmap & COMPLETE != COMPLETE || has(taken, entry.pointer)) {
             broken = number;
         }
@@ -129,25 +130,26 @@ pub fn read_list(record: &[u8; RECORD]) -> Result<ContractList, Refusal> {
     }
     walk.check_rest()?;
     if broken != 0 {
-        return refused(LIST_RULE, broken);
+        return refused(LIST_RULE, broken, 0);
     }
     Ok(list)
 }
 
-fn read_entry(walk: &mut Walk, entry: &mut Entry) -> Result<(), Refusal> {
-    entry.bitmap = walk.field(3)?;
-    entry.network = walk.field_if(has(entry.bitmap, 0), 24)?;
+/// An entry whose bitmap has this rank.
+fn read_entry(walk: &mut Walk, rank: u32, entry: &mut Entry) -> Result<(), Refusal> {
+    entry.bitmap = walk.field(rank, 3)?;
+    entry.network = walk.field_if(has(entry.bitmap, 0), rank + 1, 24)?;
     if has(entry.bitmap, 1) {
         let place = walk.place;
-        let tariff = walk.field(16)?;
+        let tariff = walk.field(rank + 2, 16)?;
         entry.key = tariff >> 12;
         entry.kind = tariff >> 4 & 255;
         entry.priority = tariff & 15;
         if entry.priority == UNDEFINED_PRIORITY {
-            return refused(OUT_OF_RANGE, place);
+            return refused(OUT_OF_RANGE, place, rank + 2);
         }
     }
-    entry.pointer = walk.field_if(has(entry.bitmap, 2), 5)?;
+    entry.pointer = walk.field_if(has(entry.bitmap, 2), rank + 3, 5)?;
     Ok(())
 }
 
@@ -237,39 +239,39 @@ pub fn read_contract(record: &[u8; RECORD], kind: Kind) -> Result<Contract, Refu
 }
 
 fn read_head(walk: &mut Walk) -> Result<Contract, Refusal> {
-    let bitmap = walk.field(7)?;
-    let provider = walk.field_if(has(bitmap, 0), 8)?;
-    let tariff = walk.field_if(has(bitmap, 1), 16)?;
-    let serial = walk.field_if(has(bitmap, 2), 32)?;
-    let class = walk.field_if(has(bitmap, 3), 8)?;
-    let validity = walk.field_if(has(bitmap, 4), 2)?;
-    let start = walk.field_if(has(validity, 0), 14)?;
-    let end = walk.field_if(has(validity, 1), 14)?;
-    let status = walk.field_if(has(bitmap, 5), 8)?;
+    let bitmap = walk.field(0, 7)?;
+    let provider = walk.field_if(has(bitmap, 0), 1, 8)?;
+    let tariff = walk.field_if(has(bitmap, 1), 2, 16)?;
+    let serial = walk.field_if(has(bitmap, 2), 3, 32)?;
+    let class = walk.field_if(has(bitmap, 3), 4, 8)?;
+    let validity = walk.field_if(has(bitmap, 4), 5, 2)?;
+    let start = walk.field_if(has(validity, 0), 6, 14)?;
+    let end = walk.field_if(has(validity, 1), 7, 14)?;
+    let status = walk.field_if(has(bitmap, 5), 8, 8)?;
     Ok(Contract { bitmap, provider, tariff, serial, class, validity, start, end, status, data: Data::Nothing })
 }
 
 fn read_data_42(walk: &mut Walk) -> Result<Data42, Refusal> {
     Ok(Data42 {
-        pay_method: walk.field(11)?,
-        price: walk.field(16)?,
-        sale_date: walk.field(14)?,
-        sale_minute: walk.minute_if(true)?,
-        agent: walk.field(8)?,
-        device: walk.field(16)?,
-        receipt: walk.field(1)?,
-        passengers: walk.field(8)?,
-        inhibition_end: walk.field(14)?,
+        pay_method: walk.field(9, 11)?,
+        price: walk.field(10, 16)?,
+        sale_date: walk.field(11, 14)?,
+        sale_minute: walk.minute_if(true, 12)?,
+        agent: walk.field(13, 8)?,
+        device: walk.field(14, 16)?,
+        receipt: walk.field(15, 1)?,
+        passengers: walk.field(16, 8)?,
+        inhibition_end: walk.field(17, 14)?,
     })
 }
 
 fn read_data_50(walk: &mut Walk) -> Result<Data50, Refusal> {
     let mut data = Data50 {
-        end: walk.field(14)?,
-        grey_list: walk.field(14)?,
-        chrono: walk.field(16)?,
-        flag: walk.field(2)?,
-        groups: walk.field(16)?,
+        end: walk.field(9, 14)?,
+        grey_list: walk.field(10, 14)?,
+        chrono: walk.field(11, 16)?,
+        flag: walk.field(12, 2)?,
+        groups: walk.field(13, 16)?,
         ..Default::default()
     };
     read_groups_0_to_5(walk, &mut data)?;
@@ -279,54 +281,54 @@ fn read_data_50(walk: &mut Walk) -> Result<Data50, Refusal> {
 }
 
 fn read_groups_0_to_5(walk: &mut Walk, data: &mut Data50) -> Result<(), Refusal> {
-    data.agent = walk.field_if(has(data.groups, 0), 8)?;
+    data.agent = walk.field_if(has(data.groups, 0), 14, 8)?;
     if has(data.groups, 1) {
-        data.origin = walk.field(14)?;
-        data.destination = walk.field(14)?;
-        data.via = walk.field(14)?;
+        data.origin = walk.field(15, 14)?;
+        data.destination = walk.field(16, 14)?;
+        data.via = walk.field(17, 14)?;
     }
     if has(data.groups, 2) {
-        data.tokens = [walk.field(16)?, walk.field(16)?];
-        data.autoload = [walk.field(14)?, walk.field(14)?];
+        data.tokens = [walk.field(18, 16)?, walk.field(19, 16)?];
+        data.autoload = [walk.field(20, 14)?, walk.field(21, 14)?];
     }
     if has(data.groups, 3) {
-        data.balance = walk.field(8)?;
-        data.last_debit = walk.field(5)?;
+        data.balance = walk.field(22, 8)?;
+        data.last_debit = walk.field(23, 5)?;
     }
     if has(data.groups, 4) {
-        data.purse = walk.field(19)?;
-        data.purse_debit = walk.field(16)?;
+        data.purse = walk.field(24, 19)?;
+        data.purse_debit = walk.field(25, 16)?;
     }
-    data.passengers = walk.field_if(has(data.groups, 5), 6)?;
+    data.passengers = walk.field_if(has(data.groups, 5), 26, 6)?;
     Ok(())
 }
 
 fn read_groups_6_to_10(walk: &mut Walk, data: &mut Data50) -> Result<(), Refusal> {
     if has(data.groups, 6) {
-        data.period_end = walk.field(14)?;
-        data.period_balance = walk.field(6)?;
+        data.period_end = walk.field(27, 14)?;
+        data.period_balance = walk.field(28, 6)?;
     }
     if has(data.groups, 7) {
-        data.zones = [walk.field(6)?, walk.field(6)?, walk.field(6)?];
+        data.zones = [walk.field(29, 6)?, walk.field(30, 6)?, walk.field(31, 6)?];
     }
     if has(data.groups, 8) {
-        data.sections = walk.field(6)?;
-        data.sections_left = walk.field(6)?;
+        data.sections = walk.field(32, 6)?;
+        data.sections_left = walk.field(33, 6)?;
     }
     if has(data.groups, 9) {
-        data.stops = [walk.field(14)?, walk.field(14)?, walk.field(14)?, walk.field(14)?];
+        data.stops = [walk.field(34, 14)?, walk.field(35, 14)?, walk.field(36, 14)?, walk.field(37, 14)?];
     }
     if has(data.groups, 10) {
-        data.lines = [walk.field(14)?, walk.field(14)?];
+        data.lines = [walk.field(38, 14)?, walk.field(39, 14)?];
     }
     Ok(())
 }
 
 fn read_groups_11_to_15(walk: &mut Walk, data: &mut Data50) -> Result<(), Refusal> {
-    data.weekly_limits = walk.field_if(has(data.groups, 11), 14)?;
-    data.start = walk.field_if(has(data.groups, 12), 14)?;
-    data.end_minute = walk.minute_if(has(data.groups, 13))?;
-    data.token = walk.field_if(has(data.groups, 14), 4)?;
-    data.intermodal = walk.field_if(has(data.groups, 15), 4)?;
+    data.weekly_limits = walk.field_if(has(data.groups, 11), 40, 14)?;
+    data.start = walk.field_if(has(data.groups, 12), 41, 14)?;
+    data.end_minute = walk.minute_if(has(data.groups, 13), 42)?;
+    data.token = walk.field_if(has(data.groups, 14), 43, 4)?;
+    data.intermodal = walk.field_if(has(data.groups, 15), 44, 4)?;
     Ok(())
 }

@@ -17,7 +17,7 @@ fn with(d: u64, v: u32) -> u64 {
 }
 
 fn of_refusal(r: Refusal) -> u64 {
-    with(with(1, r.number), r.place)
+    with(with(with(1, r.number), r.place), r.field)
 }
 
 // Of a refusal and a number.
