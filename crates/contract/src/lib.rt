@@ -103,10 +103,10 @@ impl Contract {
 
     pub const URBAN: u32 = 80;
 
-    // The rank of the first field of the data, by which they are named as a whole, and how many fields a walk has then come to.
-    pub const DATA_FIELD: u32 = 9;
+    // The rank of the first field of the data, by which they are named as a whole, and the count of a walk that has come to it.
+    const DATA_FIELD: u32 = 9;
 
-    const TO_DATA: u32 = Contract::DATA_FIELD + 1;
+    const COUNT_AT_DATA: u32 = Contract::DATA_FIELD + 1;
 }
 
 impl Data42 {
@@ -527,7 +527,7 @@ fn disagreed(head: Cursor) -> Cursor
         return Cursor {
             at: head.at,
             why: 7,
-            field: Contract::TO_DATA,
+            field: Contract::COUNT_AT_DATA,
             number: 0,
         };
     }

@@ -1,4 +1,5 @@
--- Entries of a list one after the other, of either list: their rows, their numbers, and a loop that takes them all.
+-- Entries of a list one after the other: their rows and their numbers, of either list, and a loop that takes them all, the special
+-- event list's.
 use Prim.Native.Nat.{ℕ, zero, suc, _+_, _*_, _≤_, _<_}
 use mathlib.Core.List.{List, [], _∷_, _++_, append-nil, append-assoc}
 use mathlib.Core.Path.{_≡_, refl, sym, ap, _∙_}
@@ -8,7 +9,7 @@ use lib.ListN.{length, set, take, length-append, length-set}
 use lib.Seq.{length-take-le, take-all, take-suc-set}
 use Rattle.rows.specs.Row.{Row}
 use Rattle.rows.specs.inner.Step.{Ready}
-use Rattle.rows.specs.inner.Line.{Takes, taken}
+use Rattle.rows.specs.inner.Line.{Takes}
 use Rattle.rows.specs.declared.Cursor.{Cursor}
 use Rattle.rows.proofs.Running.{takes-append}
 use Rattle.lists.specs.inner.Steps.{EntryTook}

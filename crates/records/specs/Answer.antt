@@ -22,7 +22,7 @@ pub record Written : Type 0 where
   pub answer : Refusal
   pub bytes : List ℕ
 
--- Accepted is 0, at place 0.
+-- Accepted is zeros.
 abbrev pub accepted : List ℕ → Written
 accepted bytes = record { answer = refusal 0 0; bytes = bytes }
 

@@ -11,7 +11,7 @@ pub mod event;
 pub struct Refusal {
     pub number: u32,
     pub place: u32,
-    pub field: u32, // the rank of the field at fault in card order, present or not, where one is
+    pub field: u32, // the rank of the field at fault, from 0 in card order, absent ones counted; 0 also where none is named
 }
 
 impl Refusal {
@@ -52,7 +52,7 @@ impl Refusal {
         field: 0,
     };
 
-    // What a walk met: none where it came to its end.
+    // What a walk met: none where it came to its end. At fault is the last field that it counted.
     pub fn met(c: Cursor) -> Refusal
         ensures { λ r. ⌜ r ≡ met c ⌝ }
     {

@@ -1,4 +1,4 @@
-// Rows: the steps that every reader and writer is a straight line of, a line a field.
+// Rows: the steps that every reader and writer is made of, a line a field.
 ghost use mathlib.Core.Path.{_≡_};
 ghost use Prim.Native.Nat.{_+_, _^_, _<_};
 ghost use Rattle.rows.specs.inner.Step.{passes};
@@ -8,11 +8,12 @@ pub mod put;
 mod step;
 pub mod take;
 
-// Where a walk over a record or area stands. After a refusal it stays there.
+// Where a walk over a record or area stands. After a refusal it stays there. It counts the fields that it has come to, absent ones
+// too: so many is the rank of the next field, and once one is at fault, that is the last counted. 5 and 6 are of no field: 0.
 pub struct Cursor {
     pub at: u32, // the bit reached: the place of the refusal, once there is one
     pub why: u32, // the refusal's number, 0 for none
-    pub field: u32, // how many fields it has come to: the one at fault, once there is one, is the last of them
+    pub field: u32, // how many fields it has come to
     pub number: u32, // the number read last
 }
 
@@ -40,7 +41,8 @@ impl Cursor {
         number: 0,
     };
 
-    // Behind so many fields of so many bits in all. A walk does not know how long its table is, and counts modulo 2^32.
+    // Without a refusal, behind so many fields of so many bits in all. A walk does not know how long its table is, and counts modulo
+    // 2^32.
     pub fn passed(self, fields: u32, width: u32, number: u32) -> Cursor
         requires { ⌜ self .at + width < 2 ^ 32 ⌝ }
         ensures { λ d. ⌜ d ≡ passes self fields width number ⌝ }

@@ -1,4 +1,4 @@
-// What takes and puts share: whether a field is there, its rule, and the order of its faults.
+// What takes and puts share: whether a field is there, its rule, the order of its faults, and the count of fields.
 ghost use mathlib.Core.Path.{_≡_};
 ghost use mathlib.Core.List.{[], _∷_};
 ghost use Prim.Native.Nat.{_≤_};
@@ -62,7 +62,7 @@ pub fn admit(c: Cursor, room: u32, width: u32, wide: bool, ruled: u32, number: u
     c.passed(1, width, number)
 }
 
-// A field that is absent has no bits: 7 where one of its numbers is not zero.
+// A field that is absent has no bits, but counts: 7 where one of its numbers is not zero.
 pub fn absent(c: Cursor, wide: bool) -> Cursor
     ensures { λ d. ⌜ d ≡ settled c 0 (pick wide 7 0) 0 ⌝ }
 {
@@ -79,7 +79,7 @@ pub fn past(c: Cursor) -> Cursor
     stay(c, 2, 0)
 }
 
-// The walk has come to a field, and stays there.
+// Comes to a field, which counts, and stays there with a refusal.
 fn stay(c: Cursor, why: u32, number: u32) -> Cursor
     ensures { λ d. ⌜ d ≡ stays c why number ⌝ }
 {

@@ -13,6 +13,9 @@ use Rattle.rows.specs.declared.Cursor.{Cursor}
 use Rattle.rows.specs.declared.When.{When}
 use Rattle.rows.specs.declared.Rule.{Rule}
 
+-- A cursor counts the fields that it has come to: without a refusal that is the rank of the next row; with one the row at fault is
+-- the last counted, so that its rank is one less. Refusals of no field have a count of 0, and 0 - 1 is 0.
+
 -- So many fields more, counted in 32 bits.
 abbrev pub further : ℕ → ℕ → ℕ
 further fields i = (i + fields) % 2 ^ 32
@@ -35,8 +38,7 @@ admitted c room width wide ruled v =
     (settled c width (fault wide (c .at + width) room ruled) v)
     (record { at = c .at; why = c .why; field = c .field; number = v })
 
--- The answer still to come: what the rows from here on come to after the numbers seen, or the refusal met before, at the last field
--- that was come to.
+-- The answer still to come: what the rows from here on come to after the numbers seen, or the refusal met before.
 unfoldable pub resume : ℕ → Source → List Row → List ℕ → Cursor → Outcome (List ℕ)
 resume room from rs seen c =
     pick (eqb (c .why) 0) (walk room from rs (c .field) seen (c .at)) (refused (c .why) (c .at) (c .field - 1))
@@ -87,7 +89,8 @@ pub record Drafted (draft : List ℕ) (room : ℕ) (c : Cursor) : Type 0 where
   pub longer : room / 32 + 1 < length draft
 
 -- What a put of a field gives: the answer to come at the cursor before is the answer to come at the cursor after, with
--- the numbers put behind those seen; and where there is no fault, the draft has the field's boxes behind its bits.
+-- the numbers put behind those seen, if its fields can be counted in 32 bits; and where there is no fault, the draft has the field's
+-- boxes behind its bits.
 pub record Gave (xs ys : List ℕ) (room : ℕ) (c : Cursor) (t : When) (ws : List ℕ) (rule : Rule) (vs : List ℕ) (d : Cursor) : Type 0 where
   pub ready : Drafted ys room d
   pub long : length ys ≡ length xs
