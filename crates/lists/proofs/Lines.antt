@@ -34,7 +34,7 @@ use Rattle.lists.specs.inner.Judging.{Judges}
 use Rattle.lists.specs.declared.list.Entry.{Entry}
 use Rattle.lists.specs.declared.list.ContractList.{ContractList}
 use Rattle.lists.specs.declared.rules.Judged.{Judged}
-use Rattle.lists.proofs.Rowing.{rowsFrom, rows-split, rows-more, flat, flat-append, length-flat}
+use Rattle.lists.proofs.Rowing.{rowsFrom, rows-split, rows-more, flat, flat-append, seen-long, seen-more}
 use Rattle.lists.proofs.Judging.{Turned, judges-more}
 use Rattle.lists.proofs.list.Laws.{bitmaps, pointers, fault-list, list-of-numbers}
 use Rattle.lists.proofs.Listing.{list-read, list-refused}
@@ -223,15 +223,15 @@ module _ {bytes : List ℕ} {n : ℕ} {words : List ℕ} {count : ℕ} {l : Cont
   few-taken : k ≤ 8
   few-taken = omega (arith, so .few, so .upto)
 
-  seen-long : length (count ∷ flat entryNumbers (take k (l .entries))) ≡ 1 + 6 * k
-  seen-long = omega (arith, length-flat entryNumbers 6 (λ e. refl) (take k (l .entries)), length-take-le k (l .entries) (rw (so .eight) few-taken))
+  own-long : length (count ∷ flat entryNumbers (take k (l .entries))) ≡ 1 + 6 * k
+  own-long = seen-long entryNumbers 6 (λ e. refl) count (l .entries) k (rw (so .eight) few-taken)
 
   -- An entry more.
   more-taken : (e : Entry) (d : Cursor)
       → EntryTook words (entry k) (1 + 6 * k) count c (entryNumbers e) d
       → Takes words 232 (boxMost n 4 always ∷ rowsFrom entry 0 (k + 1)) [] start ((count ∷ flat entryNumbers (take k (l .entries))) ++ entryNumbers e) d
   more-taken e d took =
-      rw (← rows-more entry k) (takes-append (so .takes) (took .takes (count ∷ flat entryNumbers (take k (l .entries))) seen-long refl))
+      rw (← rows-more entry k) (takes-append (so .takes) (took .takes (count ∷ flat entryNumbers (take k (l .entries))) own-long refl))
 
   pub sofar-refused : (e : Entry) (d : Cursor)
       → EntryTook words (entry k) (1 + 6 * k) count c (entryNumbers e) d
@@ -252,8 +252,7 @@ module _ {bytes : List ℕ} {n : ℕ} {words : List ℕ} {count : ℕ} {l : Cont
       let long : length (take k (l .entries)) ≡ k = length-take-le k (l .entries) (omega arith) in
       let next : take (k + 1) (set (l .entries) k e) ≡ take k (l .entries) ++ (e ∷ []) = rw (add-one k) (take-suc-set (l .entries) k e inside) in
       let less : 8 - k ≡ suc (8 - (k + 1)) = omega (arith, so .few) in
-      let numbers : (count ∷ flat entryNumbers (take k (l .entries))) ++ entryNumbers e ≡ count ∷ flat entryNumbers (take (k + 1) (set (l .entries) k e)) =
-      rw next (sym (ap (λ (ns : List ℕ). count ∷ ns) (flat-append entryNumbers (take k (l .entries)) (e ∷ [])))) in
+      let numbers = seen-more entryNumbers count (take k (l .entries)) (take (k + 1) (set (l .entries) k e)) e next in
       record {
         whole = so .whole;
         inside = so .inside;
@@ -279,7 +278,7 @@ module _ {bytes : List ℕ} {n : ℕ} {words : List ℕ} {count : ℕ} {l : Cont
 
     skipped : Skips words 232 (rowsFrom entry k (8 - k)) seen c (seen ++ flat entryNumbers (replicate (8 - k) none))
     unfolding seen
-    skipped = skip-entries (8 - k) k count seen seen-long refl last c (so .ready) (so .clear)
+    skipped = skip-entries (8 - k) k count seen own-long refl last c (so .ready) (so .clear)
 
     sofar-taken : Taken words 232 (contractList n) [] start (numbersOf l) (skipped .last)
     unfolding seen
@@ -324,11 +323,9 @@ module _ {l : ContractList} {xs : List ℕ} {b : Cursor} {ys : List ℕ} {c : Cu
       let seen : List ℕ = l .count ∷ flat entryNumbers (take k (l .entries)) in
       let rest : List ℕ = flat entryNumbers (drop (suc k) (l .entries)) in
       let inside : k < length (l .entries) = omega arith in
-      let short : length (take k (l .entries)) ≡ k = length-take-le k (l .entries) (omega arith) in
-      let long : length seen ≡ 1 + 6 * k = omega (arith, length-flat entryNumbers 6 (λ e. refl) (take k (l .entries)), short) in
+      let long = seen-long entryNumbers 6 (λ e. refl) (l .count) (l .entries) k (omega arith) in
       let next : take (k + 1) (l .entries) ≡ take k (l .entries) ++ (own ∷ []) = rw (add-one k) (take-suc (l .entries) k d inside) in
-      let numbers : seen ++ entryNumbers own ≡ l .count ∷ flat entryNumbers (take (k + 1) (l .entries)) =
-      rw next (sym (ap (λ (ns : List ℕ). l .count ∷ ns) (flat-append entryNumbers (take k (l .entries)) (own ∷ [])))) in
+      let numbers = seen-more entryNumbers (l .count) (take k (l .entries)) (take (k + 1) (l .entries)) own next in
       let parts : l .entries ≡ take k (l .entries) ++ (own ∷ drop (suc k) (l .entries)) = split-at (l .entries) k d inside in
       let all : numbersOf l ≡ seen ++ (entryNumbers own ++ rest) =
       numbers-flat l eight

@@ -6,9 +6,9 @@ use mathlib.Core.Path.{_≡_, refl, sym, ap, _∙_}
 use lib.Dec.{eqb}
 use lib.ListN.{length, getD, take, drop, length-append, length-map}
 use lib.Seq.{getD-at, drop-drop, drop-append-seam, take-append-seam}
-use borrow.Author.Tests.{eq-eqb, ne-eqb, eqb-true, eqb-false}
+use borrow.Author.Tests.{eq-eqb, ne-eqb, eqb-true}
 use Rattle.bits.specs.Bits.{cut, spread, zeros}
-use Rattle.bits.proofs.Cutting.{length-spread, length-cut, cut-pad}
+use Rattle.bits.proofs.Cutting.{length-spread}
 use Rattle.rows.specs.Row.{Row, pick, above, bit}
 use Rattle.rows.specs.Walk.{Outcome, done, refused, andThen, frame, laidOn, slots}
 use Rattle.rows.specs.inner.Step.{Took, Gave, Ended, Packed}
@@ -17,9 +17,9 @@ use Rattle.rows.specs.declared.Cursor.{Cursor}
 use Rattle.rows.specs.declared.Rule.{Rule}
 use Rattle.rows.specs.declared.When.the-variants.{Bit, Above}
 use Rattle.rows.proofs.Running.{takes-read, puts-write}
-use Rattle.records.specs.Answer.{refusal, refusalAt, denied, written, answered}
+use Rattle.records.specs.Answer.{refusal, denied, written, answered}
 use Rattle.records.specs.inner.Met.{met}
-use Rattle.records.proofs.Answering.{eight-words}
+use Rattle.records.proofs.Answering.{eight-words, packed-answer}
 use Rattle.lists.specs.Listing.{obeying, readList, writeList}
 use Rattle.lists.specs.inner.Steps.{obeyed}
 use Rattle.records.specs.declared.Refusal.{Refusal}
@@ -150,16 +150,6 @@ module _ (fault : List ℕ → ℕ) (outside : Bool) (rows : List Row) (vals bef
 
     pub list-written : record { answer = met f; bytes = after } ≡ writeList fault outside rows vals before
     unfolding bits
-    list-written = sym (says-written ∙ go (eqb (f .why) 0) refl)
-      where
-        go : (b : Bool) → eqb (f .why) 0 ≡ b
-            → written before (pick b (done (bits ++ zeros (232 - d .at)) (f .at)) (refused (f .why) (f .at) (f .field - 1)))
-            ≡ record { answer = pick b (refusal 0 0) (refusalAt (f .why) (f .at) (f .field - 1)); bytes = after }
-        go true e =
-            let ok : f .why ≡ 0 = eqb-true _ _ e in
-            let clear : d .why ≡ 0 = obeyed-clear d (fault vals) (rw ruled at ok) in
-            let drawn : ys ≡ cut 32 32 (length xs) bits = puts-write 232 rows vals xs all ys d few sized empty puts .1 clear in
-            let long : length ys ≡ length xs = ap length drawn ∙ length-cut 32 32 (length xs) bits in
-            let bytes : after ≡ cut 8 8 (length before) bits = packed .written ok bits (rw long drawn) in
-            rw (cut-pad, ← bytes)
-        go false e = rw (packed .kept (eqb-false _ _ e))
+    list-written =
+        let drawn = puts-write 232 rows vals xs all ys d few sized empty puts .1 in
+        sym (says-written ∙ packed-answer xs ys before after f bits (232 - d .at) packed (λ ok. drawn (obeyed-clear d (fault vals) (rw ruled at ok))))

@@ -46,12 +46,21 @@ module _ {E : Type 0} (numbers : E → List ℕ) where
   flat-append (d ∷ ds) es =
       ap (λ (l : List ℕ). numbers d ++ l) (flat-append ds es) ∙ sym (append-assoc (numbers d) (flat numbers ds) (flat numbers es))
 
-  pub flat-one : (e : E) → flat numbers (e ∷ []) ≡ numbers e
+  flat-one : (e : E) → flat numbers (e ∷ []) ≡ numbers e
   flat-one e = append-nil (numbers e)
 
-  pub length-flat : (size : ℕ) → ((e : E) → length (numbers e) ≡ size) → (es : List E) → length (flat numbers es) ≡ size * length es
+  length-flat : (size : ℕ) → ((e : E) → length (numbers e) ≡ size) → (es : List E) → length (flat numbers es) ≡ size * length es
   length-flat size sized [] = omega arith
   length-flat size sized (e ∷ es) = rw (length-append (numbers e) (flat numbers es), sized e, length-flat size sized es) (omega arith)
+
+  -- Those before entry k, behind the count: how many they are, and with one entry more.
+  pub seen-long : (size : ℕ) → ((e : E) → length (numbers e) ≡ size) → (count : ℕ) (es : List E) (k : ℕ) → k ≤ length es
+      → length (count ∷ flat numbers (take k es)) ≡ 1 + size * k
+  seen-long size sized count es k inside = rw (length-flat size sized (take k es), length-take-le k es inside) (omega arith)
+
+  pub seen-more : (count : ℕ) (es ds : List E) (e : E) → ds ≡ es ++ (e ∷ [])
+      → (count ∷ flat numbers es) ++ numbers e ≡ count ∷ flat numbers ds
+  seen-more count es ds e more = rw more (ap (λ (ns : List ℕ). count ∷ ns) (sym (flat-append es (e ∷ []) ∙ rw (flat-one e))))
 
 -- What a loop that takes every entry has come to before entry k, from the count and the cursor b on.
 pub record Taking {E : Type 0} (entry : ℕ → List Row) (numbers : E → List ℕ) (words : List ℕ) (count : ℕ) (b : Cursor) (es : List E) (c : Cursor) (k : ℕ) : Type 0 where
@@ -65,16 +74,12 @@ module _ {E : Type 0} {entry : ℕ → List Row} {numbers : E → List ℕ} {wor
       → EntryTook words (entry k) (1 + size * k) count c (numbers e) d
       → Taking entry numbers words count b (set es k e) d (k + 1)
   taking-more size sized e d more took =
-      let seen : List ℕ = count ∷ flat numbers (take k es) in
-      let short : length (take k es) ≡ k = length-take-le k es (so .upto) in
-      let long : length seen ≡ 1 + size * k = rw (length-flat numbers size sized (take k es), short) (omega arith) in
       let next : take (k + 1) (set es k e) ≡ take k es ++ (e ∷ []) = rw (add-one k) (take-suc-set es k e more) in
-      let all : seen ++ numbers e ≡ count ∷ flat numbers (take (k + 1) (set es k e)) =
-      rw next (ap (λ (ns : List ℕ). count ∷ ns) (sym (flat-append numbers (take k es) (e ∷ []) ∙ rw (flat-one numbers e)))) in
+      let all = seen-more numbers count (take k es) (take (k + 1) (set es k e)) e next in
       record {
         upto = rw (length-set es k e) (omega arith);
         ready = took .ready;
-        takes = rw (← rows-more entry k, ← all) (takes-append (so .takes) (took .takes seen long refl));
+        takes = rw (← rows-more entry k, ← all) (takes-append (so .takes) (took .takes (count ∷ flat numbers (take k es)) (seen-long numbers size sized count es k (so .upto)) refl));
       }
 
   -- All of them.

@@ -91,6 +91,23 @@ area-room n = go (eqb n 29) refl (eqb n 58) refl (eqb n 87) refl
     go false _ false _ true h _ = let e : n ≡ 87 = eqb-true n 87 h in omega arith
     go false _ false _ false _ h = let e : n ≡ 116 = eqb-true n 116 h in omega arith
 
+-- What the end of a writing leaves in the bytes, and the answer: of a draft that has the bits written where the cursor met nothing.
+pub packed-answer : (xs ys before after : List ℕ) (c : Cursor) (bits : List Bool) (more : ℕ)
+    → Packed ys c before after
+    → (c .why ≡ 0 → ys ≡ cut 32 32 (length xs) bits)
+    → written before (tells c (bits ++ zeros more)) ≡ record { answer = met c; bytes = after }
+packed-answer xs ys before after c bits more packed drawn = go (eqb (c .why) 0) refl
+  where
+    go : (b : Bool) → eqb (c .why) 0 ≡ b
+        → written before (pick b (done (bits ++ zeros more) (c .at)) (refused (c .why) (c .at) (c .field - 1)))
+        ≡ record { answer = pick b (refusal 0 0) (refusalAt (c .why) (c .at) (c .field - 1)); bytes = after }
+    go true e =
+        let ok : c .why ≡ 0 = eqb-true _ _ e in
+        let long : length ys ≡ length xs = ap length (drawn ok) ∙ length-cut 32 32 (length xs) bits in
+        let bytes : after ≡ cut 8 8 (length before) bits = packed .written ok bits (rw long (drawn ok)) in
+        rw (cut-pad, ← bytes)
+    go false e = rw (packed .kept (eqb-false _ _ e))
+
 module _ (rows : List Row) (vals xs all ys before after : List ℕ) (d : Cursor) where
   module _ {room : ℕ} (few : length rows < 2 ^ 32)
       (sized : length vals ≡ slots rows)
@@ -98,20 +115,9 @@ module _ (rows : List Row) (vals xs all ys before after : List ℕ) (d : Cursor)
       (puts : Puts room vals rows [] xs start all ys d)
       (packed : Packed ys d before after) where
     says-written : written before (write rows room vals) ≡ record { answer = met d; bytes = after }
-    says-written = ap (written before) (puts-write room rows vals xs all ys d few sized empty puts .0) ∙ go (eqb (d .why) 0) refl
-      where
-        bits : List Bool
-        bits = laidOn [] (frame rows vals) vals
-
-        go : (b : Bool) → eqb (d .why) 0 ≡ b
-            → written before (pick b (done (bits ++ zeros (room - d .at)) (d .at)) (refused (d .why) (d .at) (d .field - 1)))
-            ≡ record { answer = pick b (refusal 0 0) (refusalAt (d .why) (d .at) (d .field - 1)); bytes = after }
-        go true ok =
-            let drawn : ys ≡ cut 32 32 (length xs) bits = puts-write room rows vals xs all ys d few sized empty puts .1 (eqb-true _ _ ok) in
-            let long : length ys ≡ length xs = ap length drawn ∙ length-cut 32 32 (length xs) bits in
-            let bytes : after ≡ cut 8 8 (length before) bits = packed .written (eqb-true _ _ ok) bits (rw long drawn) in
-            rw (cut-pad, ← bytes)
-        go false why = rw (packed .kept (eqb-false _ _ why))
+    says-written =
+        let (says, drawn) = puts-write room rows vals xs all ys d few sized empty puts in
+        ap (written before) says ∙ packed-answer xs ys before after d (laidOn [] (frame rows vals) vals) (room - d .at) packed drawn
 
   module _ (few : length rows < 2 ^ 32)
       (sized : length vals ≡ slots rows)
