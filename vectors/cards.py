@@ -64,19 +64,19 @@ def own_dates(end=0, start=None):
     return {"own end date": end, "groups": 1 << 12, "own start date": start}
 
 
-def good_contract(random, kind):
+def good_contract(random, kind, **fixed):
     """A contract without dates or provider."""
-    return drawn_record(random, contract(kind), {**head(), **own_dates()})
+    return drawn_record(random, contract(kind), {**head(), **own_dates(), **fixed})
 
 
-def broken_contracts(random):
-    """Pairs of type and a record that does not read under it."""
-    good = good_contract(random, 66)
-    yield 66, flipped(good, 231)
+def odd_contracts(random):
+    """Pairs of type and record. The first and the last have a margin of a single one, which Q-7 lets them have; the
+    others do not read under their type."""
+    yield 66, flipped(good_contract(random, 66, margin=""), 231)
     yield 66, drawn_record(random, contract(66), {"bitmap": 64, "sale minute": 1440})
     yield 80, drawn_record(random, contract(80), {"bitmap": 64, "groups": 1 << 13, "end minute": 1440})
     yield 80, drawn_record(random, contract(80), {"bitmap": 127, "validity bitmap": 3, "groups": 0x0206})
-    yield 80, flipped(good_contract(random, 80), 230)
+    yield 80, flipped(good_contract(random, 80, margin=""), 230)
 
 
 def broken_lists():
@@ -109,7 +109,7 @@ def papers_samples(random):
     yield p4_line((1, 2, 7, 3, 5, 6, 8, 4), range(5, 9), 0)
     yield "list.read 1C021A1" + "0" * 51 + " 4"
     for groups in (0xD843, 0x810D, 0x0030):
-        drawing = draw(random, contract(80), {"bitmap": 0b1100011, "groups": groups})
+        drawing = draw(random, contract(80), {"bitmap": 0b1100011, "groups": groups, "margin": ""})
         yield f"contract.read {record(drawing.bits)} 80"
         yield f"contract.read {flipped(record(drawing.bits), drawing.place)} 80"
         yield f"contract.write {noise(random)} 80 {drawing.words()}"
@@ -137,7 +137,7 @@ def select_line(entries, records, day, operator):
 
 
 def selection(random):
-    for family in (usable_priorities, operator_keys, contract_types, unreadable_contracts, validity_dates,
+    for family in (usable_priorities, operator_keys, contract_types, unusual_contracts, validity_dates,
                    best_of_several, any_selection, refused_selection):
         yield from family(random)
 
@@ -169,12 +169,12 @@ def contract_types(random):
             yield select_line([(0, kind, 3, 1)], [good_contract(random, record_kind)], 100, 5)
 
 
-def unreadable_contracts(random):
-    for kind, broken in broken_contracts(random):
+def unusual_contracts(random):
+    for kind, odd in odd_contracts(random):
         good = good_contract(random, kind)
-        yield select_line([(0, kind, 3, 1)], [broken], 100, 5)
-        yield select_line([(0, kind, 3, 2), (0, kind, 3, 1)], [good, broken], 100, 5)
-        yield select_line([(0, kind, 3, 1)], [good, broken], 100, 5)
+        yield select_line([(0, kind, 3, 1)], [odd], 100, 5)
+        yield select_line([(0, kind, 3, 2), (0, kind, 3, 1)], [good, odd], 100, 5)
+        yield select_line([(0, kind, 3, 1)], [good, odd], 100, 5)
 
 
 def validity_dates(random):
@@ -210,7 +210,7 @@ def best_of_several(random):
 
 
 def any_contract(random):
-    """A contract whose dates and provider lie about day 100 and operator 20; now and then one that does not read."""
+    """A contract whose dates and provider lie about day 100 and operator 20; now and then a bit is turned over."""
     start = random.choice([None, 0, 98, 99, 100, 101])
     end = random.choice([None, 0, 99, 100, 101, 16383])
     kind = random.choice([66, 80])
@@ -304,7 +304,7 @@ def quiet_line(hours, event_time, now, **changes):
 
 def loading(random):
     for family in (places, new_entries, quiet_hours, several_events, special_blocks, named_but_free, networks,
-                   journal_sizes, unreadable_records, load_limits, load_lengths, load_fault_pairs, any_loading):
+                   journal_sizes, unusual_records, load_limits, load_lengths, load_fault_pairs, any_loading):
         yield from family(random)
 
 
@@ -408,8 +408,8 @@ def journal_sizes(random):
         yield load_line(contract_list=FULL, journal=noise(random, 29 * size + 1))
 
 
-def broken_events(random):
-    """Events that are refused: 2 (element [17] and a field past the end), 4, 4 and 5."""
+def odd_events(random):
+    """Events that are refused: 2 (element [17] and a field past the end), 4 and 4; then one with a margin."""
     yield record(bits((0, 25), (1 << 17, 28)))
     yield drawn_record(random, EVENT, {"bitmap": 0x7FFFFF ^ 1 << 17})
     yield event(0, 1440)
@@ -417,20 +417,20 @@ def broken_events(random):
     yield flipped(event(5, 5, 3), 231)
 
 
-def unreadable_records(random):
-    for broken in broken_events(random):
+def unusual_records(random):
+    for odd in odd_events(random):
         for index in (0, 2, 14):
             journal = [event(1, 1, 1)] * 15
-            journal[index] = broken
+            journal[index] = odd
             yield load_line(contract_list=FULL, journal="".join(journal[:max(index + 1, 3)]))
         for index in range(3):
             records = [event(1, 1, 1)] * 3
-            records[index] = broken
+            records[index] = odd
             for listed in ((), (1,), (3, 2)):
                 yield load_line(contract_list=FULL, special_list=special_listing(*listed), records="".join(records),
                                 specials=3)
-    for kind, broken in broken_contracts(random):
-        yield load_line(contract_list=FULL, kind=kind, new=broken)
+    for kind, odd in odd_contracts(random):
+        yield load_line(contract_list=FULL, kind=kind, new=odd)
     for kind in (0, 1, 65, 67, 79, 81, 255):
         yield load_line(contract_list=FULL, kind=kind)
     for broken in broken_lists():
@@ -497,14 +497,15 @@ def load_faults(random):
             dict(network=1), dict(kind=256),
             dict(contract_list=listing((0, 66, 13, 1))), dict(contract_list=listing((0, 66, 1, 3))),
             dict(special_list=flipped(ZEROS, 220)), dict(special_list=special_listing(2)),
-            dict(journal=event() + flipped(event(5, 5, 3), 200)),
+            dict(journal=flipped(event(5, 5, 3), 200) + event(0, 1440)),
             dict(records=record(bits((0, 25), (1 << 17, 28)))),
-            dict(kind=67), dict(new=flipped(ZEROS, 210)),
+            dict(kind=67), dict(new=record(bits((64, 7), (0, 41), (1440, 11)))),
             dict(contract_list=listing((0, 66, 14, 2), (0, 66, 14, 1)))]
 
 
 def load_fault_pairs(random):
-    given = dict(file="88" * 58, positions=2, counters=1, records=event(), specials=1, journal=event())
+    given = dict(file="88" * 58, positions=2, counters=1, records=flipped(event(), 53), specials=1,
+                 journal=flipped(event(), 231), new=flipped(ZEROS, 210))
     faults = load_faults(random)
     for index, one in enumerate(faults):
         yield load_line(**{**given, **one})

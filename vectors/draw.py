@@ -1,11 +1,15 @@
 """Makes up values and records: a third kind of walk over the layouts of `model.py`, which draws each number."""
 
 from collections import namedtuple
+from random import Random
 
 import model
 
 Layout = namedtuple("Layout", "name parameters size walk")
 Field = namedtuple("Field", "name widths place present")
+
+MARGINS = {"env": 29, "event": 29, "contract": 29, "holder": 116}      # bytes of a margin; a list has none
+ALL_ONES = "1" * 928                                                   # as much of it as there is room for
 
 ENVIRONMENT = Layout("env", "", 29, model.walk_environment)
 EVENT = Layout("event", "", 29, model.walk_event)
@@ -29,10 +33,11 @@ def contract(kind):
 
 class Drawing(model.Walk):
     """Numbers in `fixed`, by the field's name, are taken as they are, legal or not; the others are drawn and legal, and
-    zero where the field is absent. Nothing is refused."""
+    zero where the field is absent. Nothing is refused. `place` stays at the end of the last field; the bits of the
+    margin, which follow there, can be fixed, too."""
 
-    def __init__(self, random, fixed):
-        self.random, self.fixed = random, fixed
+    def __init__(self, random, size, fixed):
+        self.random, self.size, self.fixed = random, size, fixed
         self.bits, self.place, self.value, self.fields = "", 0, {}, []
 
     def step(self, name, widths, present, rule):
@@ -69,13 +74,30 @@ class Drawing(model.Walk):
     def tag(self, tag):
         self.value["tag"] = [tag]
 
+    def margin(self, length):
+        """As many bits as the record has room for."""
+        room = max(self.size - self.place, 0)
+        after = (self.fixed["margin"] if "margin" in self.fixed else self.any_margin(room))[:room]
+        at_their_places = ("0" * self.place + after).ljust(8 * length, "0")[:8 * length]
+        self.value["margin"] = [model.to_bytes(at_their_places)]
+        self.bits += after
+
+    def any_margin(self, room):
+        """None, a single one at its first or last bit, all ones, or any bits. The chance is the value's own, so that
+        margins change nothing else that is drawn."""
+        random = Random(self.bits)
+        return random.choice(["", "", "1", "1".rjust(room, "0"), "1" * room, f"{random.getrandbits(room):0{room}b}"])
+
+    def no_margin(self):
+        """A list has none."""
+
     def words(self, changes=()):
-        """The numbers in card order, with other numbers for the fields named in `changes`."""
-        return " ".join(str(number) for number in model.numbers_of({**self.value, **dict(changes)}))
+        """The numbers in card order and the margin, with others for the fields named in `changes`."""
+        return " ".join(model.to_word(given) for given in model.numbers_of({**self.value, **dict(changes)}))
 
 
 def draw(random, layout, fixed=()):
-    drawing = Drawing(random, dict(fixed))
+    drawing = Drawing(random, 8 * layout.size, dict(fixed))
     layout.walk(drawing)
     return drawing
 
@@ -103,10 +125,20 @@ def write(layout, lent, words):
 
 
 def both(random, layout, fixed=()):
-    """The same value once as a record to read and once as numbers to write."""
+    """The same value once as a record to read and once as words to write."""
     drawing = draw(random, layout, fixed)
     yield read(layout, record(drawing.bits, layout.size))
     yield write(layout, noise(random, layout.size), drawing.words())
+
+
+def ones(layout, *places):
+    """A margin with ones at these places, right or wrong, for the words of a drawing."""
+    return {"margin": [bytes.fromhex(flipped("00" * MARGINS[layout.name], *places))]}
+
+
+def write_ones(random, layout, drawing, places, changes=()):
+    """A value to write whose margin has ones at just these places."""
+    return write(layout, noise(random, layout.size), drawing.words({**dict(changes), **ones(layout, *places)}))
 
 
 def flipped(lent, *places):

@@ -2,13 +2,14 @@
 
 ZEROS = "00" * 29
 ENV_ZEROS = " ".join(["0"] * 10)
+HOLDER_ZEROS = "00" * 116
 LONGEST = 8192
 PADDED = f"special.read {ZEROS} "
 
 
 def requests():
     """Bytes, since some of these lines are not text."""
-    for family in (words, numbers, byte_strings, separators, flags, tags, long_lines):
+    for family in (words, numbers, byte_strings, separators, flags, tags, margins, long_lines):
         for line in family():
             yield line if isinstance(line, bytes) else line.encode()
 
@@ -16,10 +17,12 @@ def requests():
 def words():
     yield from ("env", "env.rea", "env.reads", "nonsense", f"Env.read {ZEROS}", f"ENV.READ {ZEROS}")
     yield from ("env.read", f"env.read {ZEROS} 0", f"env.read {ZEROS} {ZEROS}")
-    yield from (f"env.write {ZEROS}", f"env.write {ZEROS} 0 0 0 0 0 0 0 0 0", f"env.write {ZEROS} {ENV_ZEROS} 0")
-    for name, count in (("holder", 111), ("event", 35), ("special", 22), ("list", 50)):
+    yield from (f"env.write {ZEROS}", f"env.write {ZEROS} {ENV_ZEROS[2:]} {ZEROS}",
+                f"env.write {ZEROS} {ENV_ZEROS} 0 {ZEROS}")
+    for name, count, margin in (("holder", 111, [HOLDER_ZEROS]), ("event", 35, [ZEROS]), ("special", 22, []),
+                                ("list", 50, [])):
         for given in (count - 1, count, count + 1):
-            yield f"{name}.write {ZEROS} " + " ".join(["0"] * given)
+            yield " ".join([f"{name}.write", ZEROS] + ["0"] * given + margin)
     yield from (f"select {ZEROS} {ZEROS} 1 0", f"select {ZEROS} {ZEROS} 1 0 0 0", f"priority {ZEROS} 1 1")
     yield from (f"load {ZEROS}", f"apply {ZEROS}", f"find {ZEROS} {ZEROS}", f"join {ZEROS} {ZEROS} {ZEROS} {ZEROS}")
 
@@ -29,14 +32,14 @@ def numbers():
                    "18446744073709551620", "9" * 100, "9" * 5000, "0", "00", "01", "0" * 40 + "4", "0" * 40 + "9",
                    "+4", "-4", "-", "4.0", "0x4", "4h", "", "٤", "4,", "1e0", "A"):
         yield f"special.read {ZEROS} {number}"
-    yield f"env.write {ZEROS} 63 1 16777215 0 0 0 0 0 0 0".replace("16777215", "00000000000016777215")
-    yield f"env.write {ZEROS} 4294967296 0 0 0 0 0 0 0 0 0"
-    yield f"env.write {ZEROS} 64 0 0 0 0 0 0 0 0 4294967296"
+    yield f"env.write {ZEROS} 63 1 00000000000016777215 0 0 0 0 0 0 0 {ZEROS}"
+    yield f"env.write {ZEROS} 4294967296 0 0 0 0 0 0 0 0 0 {ZEROS}"
+    yield f"env.write {ZEROS} 64 0 0 0 0 0 0 0 0 4294967296 {ZEROS}"
     for letter in ("31", "32", "255", "256", "0255", "4294967295"):
         for index in (2, 35, 38, 77):
             values = ["3", "3"] + ["0"] * 109
             values[index] = letter
-            yield f"holder.write {ZEROS} {' '.join(values)}"
+            yield f"holder.write {ZEROS} {' '.join(values)} {HOLDER_ZEROS}"
 
 
 def byte_strings():
@@ -65,13 +68,46 @@ def flags():
 
 
 def tags():
-    """The tag decides how many numbers follow."""
+    """The tag decides how many numbers follow before the margin."""
     head = f"contract.write {ZEROS} 66 " + " ".join(["0"] * 9)
     for tag in ("0", "00", "66", "066", "80", "1", "65", "67", "79", "81", "322", "4294967362", "x", "-"):
         for count in (0, 8, 9, 10, 35, 36, 37):
-            yield " ".join([head, tag] + ["0"] * count)
+            yield " ".join([head, tag] + ["0"] * count + [ZEROS])
     yield f"contract.write {ZEROS} 66"
     yield head
+    yield f"{head} {ZEROS}"
+
+
+def margins():
+    """A margin has 29 bytes, a Holder's 116 in every area; a list's value has none."""
+    for name, numbers, good in (("env", 10, ZEROS), ("event", 35, ZEROS), ("holder", 111, HOLDER_ZEROS)):
+        yield from margin_words(f"{name}.write {ZEROS}", ["0"] * numbers, good)
+    for tag, numbers in (("0", 0), ("66", 9), ("80", 36)):
+        yield from margin_words(f"contract.write {ZEROS} 66", ["0"] * 9 + [tag] + ["0"] * numbers, ZEROS)
+    for length in (28, 29, 30, 58, 87, 115, 116, 117):
+        yield " ".join(["holder.write", HOLDER_ZEROS, *["0"] * 111, "00" * length])
+    yield from wrong_twice()
+
+
+def margin_words(request, numbers, good):
+    value = " ".join([request, *numbers])
+    for length in (0, 1, 28, 29, 30, 58, 87, 115, 116, 117):
+        yield f"{value} {'00' * length or '-'}"
+    for margin in (good[1:], good + "0", good[2:] + "0G", good[2:] + "0f", good[1:] + "-", "-" + good, "0", "x"):
+        yield f"{value} {margin}"
+    yield from (value, f"{value} ", f"{value}  {good}", f"{value} {good} ", f"{value} {good} {good}",
+                f"{value} {good} 0", " ".join([request, good, *numbers]))
+
+
+def wrong_twice():
+    """A bad line comes before a record of wrong length, and that before a margin at fault."""
+    for size in (0, 28, 30):
+        for margin in (ZEROS, "FF" * 29, ZEROS[2:], ZEROS + "00", "-"):
+            yield f"env.write {'00' * size or '-'} {ENV_ZEROS} {margin}"
+            yield f"contract.write {'00' * size or '-'} 67 {' '.join(['0'] * 10)} {margin}"
+    for name, numbers in (("special.write", " 4" + " 0" * 21), ("list.write", " 4" + " 0" * 49)):
+        for margin in ("", " -", f" {ZEROS}"):
+            yield f"{name} {ZEROS}{numbers}{margin}"
 
 
 def long_lines():

@@ -11,6 +11,7 @@ from random import Random
 import cards
 import fields
 import lines
+import margins
 import model
 import records
 
@@ -19,21 +20,22 @@ DEFAULT_STDIN = HERE / "../crates/replay/stdin"
 DEFAULT_STDOUT = HERE / "../crates/replay/stdout"
 SEED = 1997
 
-# The numbers that document 01 lets each operation answer. 0 is accepted. Where a number is missing, the layout leaves
-# no way to it: an Environment (121 bits at most) and a special event list (176) always fit, so they have no 2; an
-# Environment has no range, so it has no 4; 5 is of reading and 7 of writing; 8, 9 and 10 belong to one operation each.
+# The numbers that document 01 and Q-7 let each operation answer. 0 is accepted. Where a number is missing, the layout
+# leaves no way to it: an Environment (121 bits at most) and a special event list (176) always fit, so they have no 2;
+# an Environment has no range, so it has no 4; 5 is of reading a list and 7 of writing; 8, 9 and 10 belong to one
+# operation each.
 POSSIBLE = {
-    "env.read": {0, 1, 3, 5},
+    "env.read": {0, 1, 3},
     "env.write": {0, 1, 3, 7},
-    "holder.read": {0, 1, 2, 4, 5},
+    "holder.read": {0, 1, 2, 4},
     "holder.write": {0, 1, 2, 4, 7},
-    "event.read": {0, 1, 2, 4, 5},
+    "event.read": {0, 1, 2, 4},
     "event.write": {0, 1, 2, 4, 7},
     "special.read": {0, 1, 4, 5, 6, 11},
     "special.write": {0, 1, 4, 6, 7, 11},
     "list.read": {0, 1, 2, 4, 5, 6, 11},
     "list.write": {0, 1, 2, 4, 6, 7, 11},
-    "contract.read": {0, 1, 2, 3, 4, 5},
+    "contract.read": {0, 1, 2, 3, 4},
     "contract.write": {0, 1, 2, 3, 4, 7},
     "select": {0, 1, 2, 4, 5, 6, 8, 11},
     "priority": {0, 1, 2, 4, 5, 6, 11},
@@ -56,14 +58,15 @@ WALKS = {
 }
 
 # Q-2: the fields that each number names, counted from 0 over the layouts of document 01. In the kept requests each is
-# named by all who walk there (with 7 by those that write); with any other number the field is 0.
+# named by all who walk there (with 7 by those that write, with 5 by the others); with any other number the field is 0.
 #
 # 2: the first field that can run past the end and those after it. Not among them are a profile count and a first
 #    profile's bitmap (11, 12) and a sixth entry's bitmap (21): no choice of elements before them leaves so few bits. A
 #    list that loading makes has whole entries, of 24 or 48 bits, so the new entry's network or tariff is at fault.
 # 3: the EnvData bitmap. A contract type is refused before any walk.
 # 4: the fields with a range.
-# 7: all fields but event [17], which has no number.
+# 5: no field, hence 0. Q-7: the two lists only.
+# 7: all fields but event [17], which has no number. A margin has 0 as well (see `MARGIN_FAULTS`).
 NAMED = {
     2: {
         "holder": {*range(6, 11), *range(13, 41)},       # from the birth place, in an area of 29 bytes
@@ -83,6 +86,10 @@ NAMED = {
         "contract 66": {12},                             # sale minute
         "contract 80": {42},                             # group [13]
     },
+    5: {
+        "special": {0},
+        "list": {0},
+    },
     7: {
         "env": {*range(10)},
         "holder": {*range(41)},
@@ -94,6 +101,17 @@ NAMED = {
     },
 }
 
+# Q-7: who refuses a margin, and for which places of a one. Only a Holder's margin can be longer than what is lent.
+MARGIN_FAULTS = {
+    ("env.write", "in a field"),
+    ("event.write", "in a field"),
+    ("contract.write", "in a field"),
+    ("holder.write", "in a field"),
+    ("holder.write", "past the area"),
+}
+MARGIN_WRITERS = {name for name, _ in MARGIN_FAULTS}
+
+WITH_PARAMETER = ("special", "list", "contract")          # a number follows the record
 TYPE_REFUSED = "3 0 0"
 
 
@@ -102,7 +120,7 @@ def ask(request):
 
 
 def check_samples():
-    """P1 to P13 and the second slip, as document 01 gives them, with the field that Q-2 adds."""
+    """P1 to P13 and the second slip, as document 01 gives them, with the field of Q-2 and the margin of Q-7."""
     zeros, p2 = "0" * 58, cards.P2_LIST
     assert ask(f"list.read {zeros} 4") == "0 0 0 0" + " 0" * 48                                            # P1
     assert ask(f"list.read {p2} 4") == "0 0 0 3 6 0 0 16 6 1 6 0 2 16 9 2 6 0 2 5 15 3" + " 0" * 30        # P2
@@ -113,7 +131,7 @@ def check_samples():
     assert ask("list.read 1C021A1" + "0" * 51 + " 4") == "4 7 3"                                           # P6
     assert [contract_bits(groups) for groups in (0xD843, 0x810D, 0x0030)] == [207, 198, 142]               # P7
     assert ask(f"event.read {cards.record(cards.bits((0, 25), (1 << 17, 28)))}") == "2 53 20"              # P8
-    assert ask(f"event.read {cards.event(0, 1439)}") == "0 0 0 0 1439" + " 0" * 33                         # P9
+    assert ask(f"event.read {cards.event(0, 1439)}") == "0 0 0 0 1439" + " 0" * 33 + f" {zeros}"           # P9
     assert ask(f"event.read {cards.event(0, 1440)}") == "4 14 1"
     assert ask(f"list.read {zeros[2:]}01 4") == "5 231 0"                                                  # P10
     assert ask(f"find 05{zeros[2:]} 07{zeros[2:]} {zeros}") == f"0 0 0 02{zeros[2:]}"                      # P11
@@ -121,6 +139,24 @@ def check_samples():
     assert ask(cards.quiet_line(1, (100, 60), (100, 119))).startswith("9 0 0 0 ")                          # P13
     assert ask(cards.quiet_line(1, (100, 60), (100, 120))).startswith("0 0 0 1 ")
     assert loaded_pointers((1, 2, 7, 3, 5, 6, 8, 4), range(5, 9), 0)[0] == 7                               # slip
+
+
+def check_margin_samples():
+    """Q-7 by hand: the last bit of an Event; bits 12 and 13 of an Environment, whose fields end before 13; bits 6 and
+    7 of a contract, whose fields end before 7; bits 463, 464, 470 and 927 of a Holder in 58 bytes, alone and after a
+    one at bit 7, the last one of its bitmap."""
+    zeros, last, area = "0" * 58, "0" * 56 + "01", "0" * 116
+    assert ask(f"event.read {last}") == "0 0 0" + " 0" * 35 + f" {last}"
+    assert ask(f"event.write {zeros}" + " 0" * 35 + f" {last}") == f"0 0 0 {last}"
+    assert ask(f"env.write {zeros}" + " 0" * 10 + f" 0008{zeros[4:]}") == f"7 12 0 {zeros}"
+    assert ask(f"env.write {zeros}" + " 0" * 10 + f" 0004{zeros[4:]}") == f"0 0 0 0004{zeros[4:]}"
+    assert ask(f"contract.write {zeros} 66" + " 0" * 10 + f" 02{zeros[2:]}") == f"7 6 0 {zeros}"
+    assert ask(f"contract.write {zeros} 80" + " 0" * 10 + f" 01{zeros[2:]}") == f"0 0 0 01{zeros[2:]}"
+    for margin, answer in ((area[2:] + "01" + area, f"0 0 0 {area[2:]}01"), (area + "80" + area[2:], f"7 464 0 {area}"),
+                           (area + "02" + area[2:], f"7 470 0 {area}"), (area + area[2:] + "01", f"7 927 0 {area}"),
+                           ("01" + area[2:] + area[2:] + "01", f"7 7 0 {area}")):
+        assert ask(f"holder.write {area}" + " 0" * 111 + f" {margin}") == answer
+    assert ask(f"holder.read {area[2:]}01") == "0 0 0" + " 0" * 111 + f" {area[2:]}01{area}"
 
 
 def loaded_pointers(listed, erasable, needs_counter):
@@ -132,28 +168,113 @@ def loaded_pointers(listed, erasable, needs_counter):
 
 
 def contract_bits(groups):
-    """How many bits a 50h contract takes: the place of a one that is put in the last bit but belongs to no field."""
+    """How many bits a 50h contract takes: where the margin begins if all bits after the last box known are ones."""
     boxes = cards.bits((0b1100011, 7), (0, 8 + 16 + 8), (0, 14 + 14 + 16 + 2), (groups, 16))
-    refusal, place, field = ask(f"contract.read {cards.record(boxes.ljust(232, '1'))} 80").split(" ")
-    assert (refusal, field) == ("5", "0")
-    return int(place)
+    *_, margin = ask(f"contract.read {cards.record(boxes.ljust(232, '1'))} 80").split(" ")
+    return margin_bits(margin).index("1")
 
 
 def drawn_requests():
     """In order, each once."""
     random = Random(SEED)
-    made = [*cards.requests(random), *records.requests(random), *fields.requests(random)]
+    made = [*cards.requests(random), *records.requests(random), *fields.requests(random), *margins.requests(random)]
     return list(dict.fromkeys(made))
 
 
 def check_round_trips(requests):
-    """What a read gives, written, is the record that was read."""
+    """What a read gives, written, is the record that was read; what a write leaves, read, is the value that was
+    written. Neither has an exception, now that Q-7 carries the bits after the last field."""
     for request in requests:
-        name, record, *parameters = request.split(" ")
+        name, lent, *words = request.split(" ")
+        structure, _, step = name.partition(".")
         answer = ask(request)
-        if name.endswith(".read") and answer.startswith("0 0 0 "):
-            writing = " ".join([name.replace("read", "write"), record, *parameters, answer.removeprefix("0 0 0 ")])
-            assert ask(writing) == f"0 0 0 {record}", request
+        if step == "read" and accepted(answer):
+            value = answer.split(" ")[3:]
+            assert ask(" ".join([f"{structure}.write", lent, *words, *value])) == f"0 0 0 {lent}", request
+        elif step == "write" and accepted(answer):
+            parameters, value = (words[:1], words[1:]) if structure in WITH_PARAMETER else ([], words)
+            reading = " ".join([f"{structure}.read", *answer.split(" ")[3:], *parameters])
+            assert ask(reading) == " ".join(["0 0 0", *value]), request
+
+
+def accepted(answer):
+    return answer.startswith("0 0 0 ")
+
+
+def margin_bits(margin):
+    return model.to_bits(bytes.fromhex(margin))
+
+
+def check_margins(requests):
+    """Q-7, for each value that is written. What is refused with a margin of zeros is refused alike with any. What is
+    not is the same record with the margin's ones raised, or it is refused with 7 and 0: then the ones before the place
+    are accepted by themselves, and the one at the place is not."""
+    faults = set()
+    for request in requests:
+        name, lent, *value = request.split(" ")
+        if name in MARGIN_WRITERS:
+            margin = value.pop()
+            answer = ask(request)
+            without = ask(" ".join([name, lent, *value, "0" * len(margin)]))
+            if not accepted(without):
+                assert answer == without, request
+            elif accepted(answer):
+                assert answer.split(" ")[3] == raised(without.split(" ")[3], margin), request
+            else:
+                number, place, field = first_three(answer)
+                ones = margin_bits(margin)
+                before, alone = ones[:place].ljust(len(ones), "0"), "1".rjust(place + 1, "0").ljust(len(ones), "0")
+                assert (number, ones[place], field) == (7, "1", 0), request
+                assert accepted(ask(" ".join([name, lent, *value, cards.record(before, len(margin) // 2)]))), request
+                assert ask(" ".join([name, lent, *value, cards.record(alone, len(margin) // 2)])) == answer, request
+                faults.add((name, "in a field" if place < 4 * len(lent) else "past the area"))
+    assert faults == MARGIN_FAULTS, faults ^ MARGIN_FAULTS
+
+
+def raised(record, margin):
+    """The record with the ones of the margin, of which none lies past its end."""
+    number = int(record, 16) | int(margin[:len(record)], 16)
+    return f"{number:0{len(record)}X}"
+
+
+def check_cards(requests):
+    """Q-7 on a card. Selection gives the part as it lies in the file, and loading puts the new record there as it is.
+    Without the margins of the contracts or of the events they answer the same (selection with another part)."""
+    for request in requests:
+        name, *words = request.split(" ")
+        answer = ask(request).split(" ")
+        if name == "select" and answer[0] in ("0", "8"):
+            file = split(words[1])
+            if answer[0] == "0":
+                assert answer[6] == file[int(answer[4]) - 1], request
+            words[1] = "".join(plain_contracts(words[0], file, words[2]))
+            assert ask(" ".join([name, *words])).split(" ")[:6] == answer[:6], request
+        elif name == "load" and answer[0] in ("0", "9"):
+            if answer[0] == "0":
+                file, after, index = split(words[1]), split(answer[5]), int(answer[3]) - 1
+                assert after == file[:index] + [words[5]] + file[index + 1:], request
+            words[3], words[4] = ("".join(map(plain_event, split(file))) or "-" for file in words[3:5])
+            assert ask(" ".join([name, *words])).split(" ") == answer, request
+
+
+def plain_event(record):
+    """The event without its margin."""
+    *value, margin = ask(f"event.read {record}").split(" ")[3:]
+    return ask(" ".join([f"event.write {record}", *value, "0" * len(margin)])).split(" ")[3]
+
+
+def plain_contracts(contract_list, file, positions):
+    """The records of the file, those without margins that read under their entry's type."""
+    numbers = model.read_contract_list(bytes.fromhex(contract_list), int(positions))
+    plain = list(file)
+    for entry in model.contract_entries(numbers):
+        record = file[entry.pointer - 1]
+        answer = ask(f"contract.read {record} {entry.kind}")
+        if accepted(answer):
+            *value, margin = answer.split(" ")[3:]
+            writing = " ".join([f"contract.write {record} {entry.kind}", *value, "0" * len(margin)])
+            plain[entry.pointer - 1] = ask(writing).split(" ")[3]
+    return plain
 
 
 def count_pairs(requests, answers):
@@ -183,7 +304,7 @@ def check_fields(requests, answers):
                 assert field == 0, request
     expected = {(number, structure, who): named for number, structures in NAMED.items()
                 for structure, named in structures.items() for who in WALKS[structure]
-                if number != 7 or who.endswith(".write")}
+                if number not in (5, 7) or who.endswith(".write") == (number == 7)}
     assert given == expected, {key: (given.get(key), expected.get(key)) for key in given.keys() | expected.keys()
                                if given.get(key) != expected.get(key)}
 
@@ -244,8 +365,11 @@ def print_row(name, counts):
 
 def main(stdin=DEFAULT_STDIN, stdout=DEFAULT_STDOUT):
     check_samples()
+    check_margin_samples()
     drawn = drawn_requests()
     check_round_trips(drawn)
+    check_margins(drawn)
+    check_cards(drawn)
     requests = [line.encode() for line in drawn] + list(lines.requests())
     answers = [model.answer(request) for request in requests]
     pairs = count_pairs(requests, answers)

@@ -1,4 +1,5 @@
-"""A plain model of the operations, written from document 01, from request Q-2 of document 02, and from nothing else.
+"""A plain model of the operations, written from document 01, from requests Q-2 and Q-7 of document 02, and from nothing
+else.
 
 `answer(line)` takes one request line of REPLAY.md (bytes, without its line feed) and gives the answer line.
 
@@ -12,6 +13,7 @@ from collections import namedtuple
 
 RECORD = 29                      # "A record is 29 bytes, 232 bits."
 HOLDER_AREAS = (29, 58, 87, 116)
+LARGEST_AREA = 116               # a Holder's margin has this length in every area
 MOST_RECORDS = 15                # "A multiple with more than 15 records is 11."
 MOST_ENTRIES = 8                 # the largest N
 MOST_SPECIALS = 4
@@ -44,7 +46,7 @@ def to_bytes(bits):
 class Walk:
     """What reading and writing share. `place` is the bit reached, `rank` the field reached; `value` holds, by name and
     in card order, the list of numbers of each field (one number, but the letters of a text and the three parts of a
-    list tariff)."""
+    list tariff), and last the margin, as bytes. A walk ends with `margin` or, in a list, with `no_margin`."""
 
     rank = 0                     # Q-2: "counted from 0"
 
@@ -113,8 +115,14 @@ class Reading(Walk):
     def tag(self, tag):
         self.value["tag"] = [tag]
 
-    def end(self):
-        """After the last field every bit is zero to the end."""
+    def margin(self, length):
+        """Q-7: values "carry the bits after the last field", each at its own place: bit i of the margin is bit i of the
+        record or area. All else is zero: the places of the fields, and what a short area lacks of the length."""
+        bits = "0" * self.place + self.bits[self.place:]
+        self.value["margin"] = [to_bytes(bits.ljust(8 * length, "0"))]
+
+    def no_margin(self):
+        """After the last field every bit is zero to the end. Q-7: "Lists keep the old rule"."""
         one = self.bits.find("1", self.place)
         if one >= 0:
             raise Refused(5, one)
@@ -151,7 +159,21 @@ class Writing(Walk):
         if self.lent.pop(0) != tag:
             self.refuse(7, self.place)
 
-    def end(self):
+    def margin(self, length):
+        """7: "a margin with a one inside a field's place or past the lent area", "its place the first such bit, its
+        field number under Q-2 zero, after all fields were checked". The fields' places end before the area does."""
+        margin = to_bits(self.lent.pop(0))
+        in_a_field = margin.find("1", 0, self.place)
+        past = margin.find("1", self.size)
+        for wrong in (in_a_field, past):
+            if wrong >= 0:
+                raise Refused(7, wrong)
+        self.bits += margin[self.place:self.size]
+
+    def no_margin(self):
+        """A list's value has none."""
+
+    def record(self):
         return to_bytes(self.bits.ljust(self.size, "0"))
 
 
@@ -188,6 +210,7 @@ def walk_environment(walk):
     walk.elements(ENVIRONMENT, present)
     inner = walk.bitmap("env data bitmap", 2, present[6], NO_ENV_DATA_2)
     walk.number("card status", 1, inner[0])
+    walk.margin(RECORD)
 
 
 def text(letters):
@@ -235,6 +258,7 @@ def walk_holder(walk):
     walk_profiles(walk, present[6])
     inner = walk.bitmap("data bitmap", 12, present[7])
     walk.elements(HOLDER_DATA, inner)
+    walk.margin(LARGEST_AREA)
 
 
 def walk_profiles(walk, present):
@@ -272,6 +296,7 @@ def walk_event(walk):
             walk.unboxed(width, present[element])
     inner = walk.bitmap("inner bitmap", 5, present[27])
     walk.elements(EVENT_DATA, inner)
+    walk.margin(RECORD)
 
 
 SPECIAL_ENTRY = [
@@ -289,6 +314,7 @@ def walk_special_list(walk):
         prefix = f"entry {index + 1} "
         inner = walk.bitmap(prefix + "bitmap", 4, index < count)
         walk.elements(SPECIAL_ENTRY, inner, prefix)
+    walk.no_margin()
 
 
 LIST_TARIFF_PARTS = [4, 8, 4]    # operator key, contract type, priority; one field
@@ -303,6 +329,7 @@ def walk_contract_list(walk, positions):
         walk.number(prefix + "network", 24, inner[0])
         walk.field(prefix + "tariff", LIST_TARIFF_PARTS, inner[1], LIST_TARIFF)
         walk.number(prefix + "pointer", 5, inner[2])
+    walk.no_margin()
 
 
 CONTRACT_HEAD = [
@@ -363,6 +390,7 @@ def walk_contract(walk, kind):
         walk_data_42(walk)
     elif data_follow:
         walk_data_50(walk)
+    walk.margin(RECORD)
 
 
 def walk_head(walk):
@@ -413,14 +441,14 @@ def require(*limits):
 def read_walk(record, walk_layout, *parameters):
     walk = Reading(record)
     walk_layout(walk, *parameters)
-    walk.end()
     return walk.value
 
 
 def write_walk(size, numbers, walk_layout, *parameters):
+    """The last of the numbers is the margin, where there is one."""
     walk = Writing(8 * size, numbers)
     walk_layout(walk, *parameters)
-    return walk.end()
+    return walk.record()
 
 
 def require_type(kind):
@@ -484,7 +512,7 @@ def special_entries(numbers):
 
 
 def numbers_of(value):
-    """The numbers of a value in card order."""
+    """The numbers of a value in card order, then its margin, if it has one."""
     return [number for numbers in value.values() for number in numbers]
 
 
@@ -762,12 +790,24 @@ def number_to(most):
     return number
 
 
+def margin_of(length):
+    """A byte string of this length and no other."""
+    def margin(word):
+        lent = byte_string(word)
+        if len(lent) != length:
+            raise BadLine
+        return lent
+    return margin
+
+
 NUMBER = number_to(4294967295)
 LETTER = number_to(255)
 FLAG = number_to(1)
+MARGIN = margin_of(RECORD)
+HOLDER_MARGIN = margin_of(LARGEST_AREA)
 
-HOLDER_WORDS = [NUMBER] * 2 + [LETTER] * 34 + [NUMBER] * 2 + [LETTER] * 40 + [NUMBER] * 33
-CONTRACT_WORDS = [byte_string, NUMBER] + [NUMBER] * 9 + [NUMBER]       # the last is the tag
+HOLDER_WORDS = [NUMBER] * 2 + [LETTER] * 34 + [NUMBER] * 2 + [LETTER] * 40 + [NUMBER] * 33 + [HOLDER_MARGIN]
+CONTRACT_WORDS = [byte_string, NUMBER] + [NUMBER] * 9 + [NUMBER]       # up to the tag
 DATA_WORDS = {NO_DATA: 0, TYPE_42: 9, TYPE_50: 36}
 
 
@@ -797,11 +837,11 @@ Operation = namedtuple("Operation", "words run refused")
 
 OPERATIONS = {
     b"env.read": Operation([byte_string], environment_read, nothing),
-    b"env.write": Operation([byte_string] + [NUMBER] * 10, environment_write, first),
+    b"env.write": Operation([byte_string] + [NUMBER] * 10 + [MARGIN], environment_write, first),
     b"holder.read": Operation([byte_string], holder_read, nothing),
     b"holder.write": Operation([byte_string] + HOLDER_WORDS, holder_write, first),
     b"event.read": Operation([byte_string], event_read, nothing),
-    b"event.write": Operation([byte_string] + [NUMBER] * 35, event_write, first),
+    b"event.write": Operation([byte_string] + [NUMBER] * 35 + [MARGIN], event_write, first),
     b"special.read": Operation([byte_string, NUMBER], special_read, nothing),
     b"special.write": Operation([byte_string, NUMBER] + [NUMBER] * 21, special_write, first),
     b"list.read": Operation([byte_string, NUMBER], list_read, nothing),
@@ -832,13 +872,13 @@ def parse(line):
 
 
 def contract_kinds(words):
-    """The tag decides how many numbers follow."""
+    """The tag decides how many numbers follow before the margin."""
     if len(words) < len(CONTRACT_WORDS):
         raise BadLine
     tag = NUMBER(words[len(CONTRACT_WORDS) - 1])
     if tag not in DATA_WORDS:
         raise BadLine
-    return CONTRACT_WORDS + [NUMBER] * DATA_WORDS[tag]
+    return CONTRACT_WORDS + [NUMBER] * DATA_WORDS[tag] + [MARGIN]
 
 
 def to_word(given):

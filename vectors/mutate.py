@@ -21,7 +21,35 @@ def nameless(line):
 """
 
 
-# What is wrong, the text of model.py that is right (it occurs once), the text in its place.
+READ_MARGIN = """        bits = "0" * self.place + self.bits[self.place:]
+"""
+CHECK_MARGIN = """        for wrong in (in_a_field, past):
+            if wrong >= 0:
+                raise Refused(7, wrong)
+"""
+KEEP_MARGIN = """        self.bits += margin[self.place:self.size]
+"""
+STEP = """        numbers = self.step(name, widths, present, rule)
+"""
+COUNT_ABSENT = """        self.absent = getattr(self, "absent", 0) + (0 if present else sum(widths))
+"""
+WALK_TO_WRITE = """    walk = Writing(8 * size, numbers)
+    walk_layout(walk, *parameters)
+"""
+PLAIN_CONTRACT = "write_walk(RECORD, numbers_of(read_contract({0}, {1}))[:-1] + [bytes(RECORD)], walk_contract, {1})"
+
+
+def without_margins(line, values):
+    """A line of model.py that reads these values, and then refuses a one after the last field as before Q-7."""
+    return f"""    {line}
+    for value in {values}:
+        if any(value["margin"][0]):
+            raise Refused(5, to_bits(value["margin"][0]).find("1"))
+"""
+
+
+# What is wrong, the text of model.py that is right (it occurs once), the text in its place; there may be several such
+# pairs of texts.
 MUTATIONS = [
     ("the first bitmap bit is element [0]",
      "for element in range(width)]",
@@ -327,23 +355,330 @@ MUTATIONS = [
     ("loading drops the field of a new list that does not fit",
      "    new_list = write_contract_list(list_numbers(kept + [new_entry]), positions)\n",
      nameless("new_list = write_contract_list(list_numbers(kept + [new_entry]), positions)")),
+
+    # Q-7: the margin, read
+    ("the margin is not read",
+     READ_MARGIN,
+     """        bits = ""
+"""),
+    ("the margin that is read has the fields, too",
+     READ_MARGIN,
+     """        bits = self.bits
+"""),
+    ("the margin that is read begins at bit 0",
+     READ_MARGIN,
+     """        bits = self.bits[self.place:]
+"""),
+    ("the margin begins at bit 0, read and written",
+     READ_MARGIN,
+     """        bits = self.bits[self.place:]
+""",
+     CHECK_MARGIN + KEEP_MARGIN,
+     """        self.bits += margin[:self.size - self.place]
+"""),
+    ("the margin that is read begins a bit early",
+     READ_MARGIN,
+     """        bits = "0" * (self.place - 1) + self.bits[self.place - 1:]
+"""),
+    ("the margin that is read begins a bit late",
+     READ_MARGIN,
+     """        bits = "0" * (self.place + 1) + self.bits[self.place + 1:]
+"""),
+    ("the margin that is read begins with a whole byte",
+     READ_MARGIN,
+     """        whole = -(-self.place // 8) * 8
+        bits = "0" * whole + self.bits[whole:]
+"""),
+    ("the margin that is read ends a bit early",
+     READ_MARGIN,
+     """        bits = "0" * self.place + self.bits[self.place:-1]
+"""),
+    ("a Holder's margin ends with the record in which the last field ends",
+     READ_MARGIN,
+     """        bits = "0" * self.place + self.bits[self.place:-(-self.place // 232) * 232]
+"""),
+    ("absent fields take place, on reading",
+     STEP,
+     STEP + COUNT_ABSENT,
+     READ_MARGIN,
+     """        bits = "0" * (self.place + self.absent) + self.bits[self.place + self.absent:]
+"""),
+    ("the margin of a short Holder area has the area's length",
+     'bits.ljust(8 * length, "0")',
+     "bits"),
+    ("a contract without data has no margin",
+     """        walk_data_50(walk)
+    walk.margin(RECORD)
+""",
+     """        walk_data_50(walk)
+    if isinstance(walk, Reading) and not data_follow:
+        walk.bits = walk.bits[:walk.place].ljust(walk.size, "0")
+    walk.margin(RECORD)
+"""),
+    ("an Environment with a margin is refused",
+     """    walk.number("card status", 1, inner[0])
+    walk.margin(RECORD)
+""",
+     """    walk.number("card status", 1, inner[0])
+    walk.no_margin()
+    walk.margin(RECORD)
+"""),
+    ("a Holder with a margin is refused",
+     "    walk.margin(LARGEST_AREA)\n",
+     "    walk.no_margin()\n    walk.margin(LARGEST_AREA)\n"),
+    ("an event with a margin is refused",
+     """    walk.elements(EVENT_DATA, inner)
+    walk.margin(RECORD)
+""",
+     """    walk.elements(EVENT_DATA, inner)
+    walk.no_margin()
+    walk.margin(RECORD)
+"""),
+    ("a contract with a margin is refused",
+     """        walk_data_50(walk)
+    walk.margin(RECORD)
+""",
+     """        walk_data_50(walk)
+    walk.no_margin()
+    walk.margin(RECORD)
+"""),
+    ("a contract list may have ones after its last field",
+     """        walk.number(prefix + "pointer", 5, inner[2])
+    walk.no_margin()
+""",
+     """        walk.number(prefix + "pointer", 5, inner[2])
+"""),
+    ("a special event list may have ones after its last field",
+     """        walk.elements(SPECIAL_ENTRY, inner, prefix)
+    walk.no_margin()
+""",
+     """        walk.elements(SPECIAL_ENTRY, inner, prefix)
+"""),
+
+    # Q-7: the margin, written
+    ("the margin is not written",
+     KEEP_MARGIN,
+     ""),
+    ("the first bit of the margin is not written",
+     KEEP_MARGIN,
+     """        self.bits += "0" * (self.place < self.size) + margin[self.place + 1:self.size]
+"""),
+    ("the last bit of the margin is not written",
+     KEEP_MARGIN,
+     """        self.bits += margin[self.place:self.size - 1]
+"""),
+    ("the last byte of the lent record stays where the margin is zero",
+     "    return [write_walk(RECORD, numbers, walk_event)]\n",
+     "    return [either(write_walk(RECORD, numbers, walk_event), bytes(28) + record[28:])]\n"),
+    ("a one in a field's place is put into the field",
+     CHECK_MARGIN + KEEP_MARGIN,
+     """        if past >= 0:
+            raise Refused(7, past)
+        fields = int(self.bits, 2) | int(margin[:self.place], 2)
+        self.bits = f"{fields:0{self.place}b}" + margin[self.place:self.size]
+"""),
+    ("a one in a field's place is cleared",
+     'in_a_field = margin.find("1", 0, self.place)',
+     "in_a_field = -1"),
+    ("a one in a field's place is let through where the field has a one there",
+     'in_a_field = margin.find("1", 0, self.place)',
+     'in_a_field = next((at for at in range(self.place) if margin[at] > self.bits[at]), -1)'),
+    ("a one in the last byte of the fields is let through",
+     'margin.find("1", 0, self.place)',
+     'margin.find("1", 0, self.place // 8 * 8)'),
+    ("a one in the last bit of the fields is let through",
+     'margin.find("1", 0, self.place)',
+     'margin.find("1", 0, self.place - 1)'),
+    ("a one in the first bit of the record is let through",
+     'margin.find("1", 0, self.place)',
+     'margin.find("1", 1, self.place)'),
+    ("a one in the first bit after the fields is refused",
+     'margin.find("1", 0, self.place)',
+     'margin.find("1", 0, self.place + 1)'),
+    ("absent fields take place, on writing",
+     STEP,
+     STEP + COUNT_ABSENT,
+     'margin.find("1", 0, self.place)',
+     'margin.find("1", 0, self.place + self.absent)'),
+    ("a one past a short Holder area is let through",
+     'past = margin.find("1", self.size)',
+     "past = -1"),
+    ("a one in the first bit past a short Holder area is let through",
+     'margin.find("1", self.size)',
+     'margin.find("1", self.size + 1)'),
+    ("a one in the last bit of the margin is let through",
+     'margin.find("1", self.size)',
+     'margin.find("1", self.size, len(margin) - 1)'),
+    ("a one in the last bit of the record is refused",
+     'margin.find("1", self.size)',
+     'margin.find("1", self.size - 1)'),
+    ("a one past a short Holder area is counted from the area's end",
+     'margin.find("1", self.size)',
+     'margin[self.size:].find("1")'),
+    ("a one past a short Holder area has the area's end as place",
+     'past = margin.find("1", self.size)',
+     'past = self.size if "1" in margin[self.size:] else -1'),
+    ("the last one in a field's place is named",
+     'margin.find("1", 0, self.place)',
+     'margin.rfind("1", 0, self.place)'),
+    ("the last one past a short Holder area is named",
+     'margin.find("1", self.size)',
+     'margin.rfind("1", self.size)'),
+    ("a one past a short Holder area is named before one in a field's place",
+     "for wrong in (in_a_field, past):",
+     "for wrong in (past, in_a_field):"),
+    ("the first one of the margin is named, right or wrong",
+     "raise Refused(7, wrong)",
+     'raise Refused(7, margin.find("1"))'),
+    ("the margin's fault has the bit reached as place",
+     "raise Refused(7, wrong)",
+     "raise Refused(7, self.place)"),
+    ("the margin's fault has place 0",
+     "raise Refused(7, wrong)",
+     "raise Refused(7)"),
+    ("the margin's fault gives the number of fields",
+     "raise Refused(7, wrong)",
+     "self.refuse(7, wrong)"),
+    ("the margin's fault names the last field",
+     "raise Refused(7, wrong)",
+     "raise Refused(7, wrong, self.rank - 1)"),
+    ("the margin's fault is 5",
+     "raise Refused(7, wrong)",
+     "raise Refused(5, wrong)"),
+    ("the fields are written though the margin is at fault",
+     "raise Refused(7, wrong)",
+     """fault = Refused(7, wrong)
+                fault.written = self.record()
+                raise fault""",
+     "+ operation.refused(*lent)\n",
+     "+ ([refused.written] if hasattr(refused, 'written') else operation.refused(*lent))\n"),
+    ("a one past a short Holder area is 2",
+     "raise Refused(7, wrong)",
+     "raise Refused(2 if wrong == past else 7, wrong)"),
+    ("the margin is checked before the fields",
+     WALK_TO_WRITE,
+     """    unchecked = type("Unchecked", (Writing,), {"refuse": lambda *_: None})(8 * size, numbers)
+    try:
+        walk_layout(unchecked, *parameters)
+    except (IndexError, TypeError):
+        pass                     # data that do not agree
+""" + WALK_TO_WRITE),
+    ("the margin is checked at each field",
+     """        self.bits += f"{number:0{width}b}"
+""",
+     """        if self.lent and isinstance(self.lent[-1], bytes):
+            one = to_bits(self.lent[-1]).find("1", self.place, self.place + width)
+            if one >= 0:
+                raise Refused(7, one)
+        self.bits += f"{number:0{width}b}"
+"""),
+    ("a one past a short Holder area is found before the fields are checked",
+     WALK_TO_WRITE,
+     """    if isinstance(numbers[-1], bytes) and "1" in to_bits(numbers[-1])[8 * size:]:
+        raise Refused(7, to_bits(numbers[-1]).find("1", 8 * size))
+""" + WALK_TO_WRITE),
+    ("the margin is checked before the data's agreement",
+     """        if self.lent.pop(0) != tag:
+""",
+     """        if self.lent.pop(0) != tag:
+            one = to_bits(self.lent[-1]).find("1", 0, self.place)
+            if one >= 0:
+                raise Refused(7, one)
+"""),
+    ("the margin is checked before the type",
+     """    require_type(kind)
+    return [write_walk(""",
+     """    if any(numbers[-1]) and to_bits(numbers[-1]).find("1") < 7:
+        raise Refused(7, to_bits(numbers[-1]).find("1"))
+    require_type(kind)
+    return [write_walk("""),
+    ("the margin is checked before the length",
+     """    require_area(area)
+    return [write_walk(""",
+     """    if any(numbers[-1]) and to_bits(numbers[-1]).find("1") < 8:
+        raise Refused(7, to_bits(numbers[-1]).find("1"))
+    require_area(area)
+    return [write_walk("""),
+
+    # Q-7: the margin on a card
+    ("a contract with a margin is not eligible",
+     """    except Refused:
+        return False
+    return key_fits(""",
+     """    except Refused:
+        return False
+    if any(contract["margin"][0]):
+        return False
+    return key_fits("""),
+    ("among equals a contract without a margin goes first",
+     "best is None or entry.priority < best[1].priority:",
+     """best is None or entry.priority < best[1].priority or (entry.priority == best[1].priority and any(
+                    read_contract(part(file, best[1].pointer), best[1].kind)["margin"][0]) and not any(
+                    read_contract(part(file, entry.pointer), entry.kind)["margin"][0])):"""),
+    ("selection gives the part without its margin",
+     "    return [position, entry.pointer, entry.priority, part(file, entry.pointer)]\n",
+     "    chosen = part(file, entry.pointer)\n    return [position, entry.pointer, entry.priority, "
+     + PLAIN_CONTRACT.format("chosen", "entry.kind") + "]\n"),
+    ("a new contract with a margin is refused",
+     "    read_contract(new, kind)\n",
+     without_margins("new_value = read_contract(new, kind)", "[new_value]")),
+    ("the new contract is written without its margin",
+     "file[:RECORD * (pointer - 1)] + new +",
+     "file[:RECORD * (pointer - 1)] + " + PLAIN_CONTRACT.format("new", "kind") + " +"),
+    ("a journal event with a margin is refused",
+     "    journal_events = read_events(journal)\n",
+     without_margins("journal_events = read_events(journal)", "journal_events")),
+    ("a special event with a margin is refused",
+     "    special_events = read_events(records)\n",
+     without_margins("special_events = read_events(records)", "special_events")),
+    ("a journal event with a margin blocks nothing",
+     "if age < 0 or age < quiet:",
+     'if (age < 0 or age < quiet) and not any(event["margin"][0]):'),
+    ("a listed special event with a margin blocks nothing",
+     "for entry in listed_specials]\n",
+     'for entry in listed_specials\n                if not any(special_events[entry.pointer - 1]["margin"][0])]\n'),
+
+    # Q-7: the margin as a word
+    ("a margin may be shorter",
+     "if len(lent) != length:",
+     "if len(lent) > length:"),
+    ("a margin may be longer",
+     "if len(lent) != length:",
+     "if len(lent) < length:"),
+    ("a Holder's margin may have the length of any area",
+     "if len(lent) != length:",
+     "if len(lent) != length and (length == RECORD or len(lent) not in HOLDER_AREAS):"),
+    ("a margin of another length is refusal 1",
+     "if len(lent) != length:",
+     "if False:",
+     """        margin = to_bits(self.lent.pop(0))
+""",
+     """        margin = to_bits(self.lent.pop(0))
+        if len(margin) != 8 * length:
+            raise Refused(1)
+"""),
+    ("an empty margin is one of zeros",
+     "if len(lent) != length:",
+     "if lent == b\"\":\n            return bytes(length)\n        if len(lent) != length:"),
 ]
 
 UNCHANGED = "nothing", "LONGEST_LINE = 8192", "LONGEST_LINE = 8192"
 
 
-def mutated_model(old, new):
+def mutated_model(texts):
     source = (HERE / "model.py").read_text()
-    assert source.count(old) == 1, f"occurs {source.count(old)} times: {old}"
+    for old, new in zip(texts[::2], texts[1::2]):
+        assert source.count(old) == 1, f"occurs {source.count(old)} times: {old}"
+        source = source.replace(old, new)
     module = ModuleType("mutated_model")
-    exec(source.replace(old, new), module.__dict__)
+    exec(source, module.__dict__)
     return module
 
 
 def differences(requests, answers, mutation):
     """How many answers the mutation changes."""
-    _, old, new = mutation
-    answer = mutated_model(old, new).answer
+    _, *texts = mutation
+    answer = mutated_model(texts).answer
     return sum(answer(request) != kept for request, kept in zip(requests, answers))
 
 
@@ -354,7 +689,7 @@ def main(stdin=DEFAULT_STDIN, stdout=DEFAULT_STDOUT):
     assert differences(requests, answers, UNCHANGED) == 0, "the vectors are not those of this model"
     with Pool() as pool:
         counts = pool.map(partial(differences, requests, answers), MUTATIONS, chunksize=1)
-    for (fault, _, _), count in zip(MUTATIONS, counts):
+    for (fault, *_), count in zip(MUTATIONS, counts):
         print(f"{count:6} {fault}")
     unnoticed = counts.count(0)
     print(f"{len(MUTATIONS)} mutations, {unnoticed} unnoticed")

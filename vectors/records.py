@@ -316,11 +316,11 @@ def data_agreement(random):
     for kind in (66, 80):
         for bitmap in (0, 64, 1, 65, 63, 127):
             head = draw(random, contract(kind), {"bitmap": bitmap, "groups": 0})
-            words = head.words().split(" ")[:9]
+            words = head.words().split(" ")
             for tag, count in DATA_COUNTS.items():
                 for number in (0, 1, LARGEST):
                     data = [str(tag)] + [str(number)] * count
-                    yield write(contract(kind), noise(random), " ".join(words + data))
+                    yield write(contract(kind), noise(random), " ".join(words[:9] + data + words[-1:]))
 
 
 # ---------------------------------------------------------------- Margins, lengths, parameters
@@ -346,19 +346,19 @@ def larger_values(random):
 
 
 def margins(random):
-    """Each single one after the last field of a small value, some after that of a larger one; then several ones, of
-    which the first counts."""
+    """Each single one after the last field of a small value, some after that of a larger one; then several ones. In a
+    list the first of them counts, the others keep them all."""
     for layout, fixed in small_values():
         yield from ones_after(random, layout, fixed, step=1)
     for layout, fixed in larger_values(random):
         yield from ones_after(random, layout, fixed, step=4)
-    lent = drawn_record(random, holder(116), {"bitmap": 9})
+    lent = drawn_record(random, holder(116), {"bitmap": 9, "margin": ""})
     for place in (231, 232, 463, 464, 695, 696, 866, 867, 926, 927):
         yield read(holder(116), flipped(lent, place))
 
 
 def ones_after(random, layout, fixed, step):
-    drawing = draw(random, layout, fixed)
+    drawing = draw(random, layout, {**fixed, "margin": ""})
     lent = record(drawing.bits, layout.size)
     after = range(drawing.place, 8 * layout.size)
     for place in [*after[::step], after[-1]]:
