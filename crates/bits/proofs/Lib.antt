@@ -3,3 +3,4 @@ pub mod Fronts
 pub mod Cutting
 pub mod Ones
 pub mod Laying
+pub mod Clearing

@@ -39,6 +39,10 @@ spread w (x ∷ xs) = bitsOf w x ++ spread w xs
 abbrev pub zeros : ℕ → List Bool
 zeros n = replicate n false
 
+-- Bits with zeros before a place.
+abbrev pub cleared : ℕ → List Bool → List Bool
+cleared at bs = zeros at ++ drop at bs
+
 -- n numbers of w bits each, the next one step bits on; past the end the bits are zeros. Bytes are cut 8 8.
 abbrev pub cut : ℕ → ℕ → ℕ → List Bool → List ℕ
 cut step w zero bs = []

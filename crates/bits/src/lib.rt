@@ -2,9 +2,10 @@
 ghost use mathlib.Core.Path.{_≡_};
 ghost use mathlib.Core.Bool.{Bool};
 ghost use mathlib.Core.List.{List, _++_};
-ghost use Prim.Native.Nat.{ℕ, _+_, _*_, _/_, _<_, _≤_, _^_, min};
+ghost use Prim.Native.Nat.{_+_, _*_, _/_, _<_, _≤_, _^_, min};
+ghost use lib.Dec.{eqb};
 ghost use lib.ListN.{length, getD, take, drop};
-ghost use Rattle.bits.specs.Bits.{number, spread, zeros, cut, bitsOf, leading};
+ghost use Rattle.bits.specs.Bits.{number, spread, zeros, cut, bitsOf, leading, cleared};
 ghost use Rattle.bits.specs.inner.Words.{numberAt};
 
 // Four bytes as one number, high byte first.
@@ -81,6 +82,63 @@ fn byte(bytes: &[u8], i: usize) -> u8
     ensures { λ r. ⌜ r ≡ getD (now (bytes .entry)) i 0 ⌝ }
 {
     if i < bytes.len() { bytes[i] } else { 0 }
+}
+
+// The bits of whole words, 64 each, in words that begin 32 bits apart, and one more word behind them.
+pub fn words_of(whole: &[u64], words: &mut [u64])
+    requires { ⌜ length (now words) ≡ 2 * length (now whole) + 1 ⌝ }
+    ensures { λ r. ⌜ now (words .exit) ≡ cut 32 64 (length (now (words .entry))) (spread 64 (now (whole .entry))) ⌝ }
+{
+    let mut k = 0;
+    while k < whole.len() {
+        let next = if k + 1 < whole.len() { whole[k + 1] } else { 0 };
+        words[2 * k] = whole[k];
+        words[2 * k + 1] = (whole[k] << 32) + (next >> 32);
+        k += 1;
+    }
+    words[2 * k] = 0;
+}
+
+// A word that begins with bit start of some bits, with zeros before bit at.
+pub fn cleared(word: u64, start: u32, at: u32) -> u64
+    ensures { λ r. ⌜ ((bs : List Bool) → word ≡ number (take 64 (drop start bs ++ zeros 64))
+        → r ≡ number (take 64 (drop start (cleared at bs) ++ zeros 64))) ⌝ }
+{
+    if at <= start {
+        return word;
+    }
+    if at - start < 64 {
+        let before = at - start;
+        return (word << before) >> before;
+    }
+    0
+}
+
+// The bits from bit at on, where they stand, in words of 64 bits each.
+pub fn rest(words: &[u64], at: u32, out: &mut [u64])
+    requires { ⌜ (2 * length (now out) ≤ length (now words)) × (length (now words) < 65536) ⌝ }
+    ensures { λ r. ⌜ ((bs : List Bool) → now (words .entry) ≡ cut 32 64 (length (now (words .entry))) bs
+        → now (out .exit) ≡ cut 64 64 (length (now (out .entry))) (cleared at bs)) ⌝ }
+{
+    let mut k = 0;
+    while k < out.len() {
+        out[k] = cleared(words[2 * k], 64 * k as u32, at);
+        k += 1;
+    }
+}
+
+// Whether every bit of some words is zero.
+pub fn all_zero(words: &[u64]) -> bool
+    ensures { λ r. ⌜ r ≡ eqb (leading (spread 64 (now (words .entry)))) (64 * length (now (words .entry))) ⌝ }
+{
+    let mut k = 0;
+    while k < words.len() {
+        if words[k] != 0 {
+            return false;
+        }
+        k += 1;
+    }
+    true
 }
 
 // The number in the w bits from bit at on: one load and three shifts.

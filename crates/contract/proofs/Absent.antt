@@ -9,7 +9,7 @@ use lib.ListN.{length, take, drop, length-drop, take-append-drop}
 use lib.Seq.{take-add, drop-drop}
 use borrow.Author.Tests.{ltb-true}
 use Rattle.rows.specs.Row.{Row, pick, told, holds}
-use Rattle.rows.specs.Walk.{done, read, boxesOf, exceeds, frameOn, frame, slots}
+use Rattle.rows.specs.Walk.{done, Content, read, boxesOf, exceeds, frameOn, frame, slots}
 use Rattle.rows.proofs.Boxes.{length-there, numbers-fit}
 use Rattle.rows.proofs.RoundTrip.{reading}
 
@@ -93,12 +93,13 @@ slots-append [] more = omega arith
 slots-append (r ∷ rs) more = let rest = slots-append rs more in omega arith
 
 -- A reading under rows and more that are absent behind them: the more are zeros.
-pub read-absent : (rs more : List Row) (bs : List Bool) {vals : List ℕ} {end : ℕ} → read (rs ++ more) bs ≡ done vals end
-    → absent more (take (slots rs) vals) ≡ true
-    → drop (slots rs) vals ≡ zeroSlots more
+pub read-absent : (rs more : List Row) (bs : List Bool) {c : Content} {end : ℕ} → read (rs ++ more) bs ≡ done c end
+    → absent more (take (slots rs) (c .numbers)) ≡ true
+    → drop (slots rs) (c .numbers) ≡ zeroSlots more
 unfolding frame
-read-absent rs more bs {vals} {end} h off =
+read-absent rs more bs {c} {end} h off =
     let r = reading (rs ++ more) bs h in
+    let vals : List ℕ = c .numbers in
     let sized : length (drop (slots rs) vals) ≡ slots more = rw length-drop (omega (arith, r .sized, slots-append rs more)) in
     let fits : exceeds (frameOn (rs ++ more) [] vals) vals ≡ false = rw (← r .held) at (numbers-fit (frameOn (rs ++ more) [] vals) bs) in
     absent-zeros more (take (slots rs) vals) (drop (slots rs) vals) sized off (frame-behind rs more [] vals fits)

@@ -8,15 +8,16 @@ use native.Mathlib.Omega.{arith}
 use lib.Dec.{eqb}
 use lib.ListN.{length, getD, take, drop}
 use borrow.Author.Tests.{eqb-true}
-use Rattle.bits.specs.Bits.{spread}
+use Rattle.bits.specs.Bits.{cut, spread}
+use Rattle.rows.specs.Margin.{wordsOf}
 use Rattle.rows.specs.Row.{pick}
-use Rattle.rows.specs.Walk.{Outcome, done, refused, andThen, read, write}
+use Rattle.rows.specs.Walk.{Outcome, done, refused, andThen, walk, slotsOf, Content, read, write}
 use Rattle.rows.specs.table.Contract.{head, data42, data50, contract42, contract50}
-use Rattle.rows.specs.Refusing.{readNumbers, writeNumbers}
+use Rattle.rows.specs.Refusing.{walkNumbers, writeNumbers}
 use Rattle.rows.proofs.RoundTrip.{read-slots}
-use Rattle.rows.proofs.Refusing.{within, refuses-then, write-number, write-refused}
-use Rattle.records.specs.Answer.{Written, refusal, refusalAt, accepted, denied, written, answered, readRecord, writeRecord, from}
-use Rattle.contract.specs.Contract.{data42Of, data50Of, numbers42, numbers50, headNumbers, withData, isCarnet, isUrban, tableOf, follow, contractOf, known, contractRead, suit, agrees, carnet, urban, numbersOf, disagreement, contractWritten}
+use Rattle.rows.proofs.Refusing.{Refuses, within, refuses-then, walk-written}
+use Rattle.records.specs.Answer.{Written, refusal, refusalAt, accepted, denied, written, answered, valued, content, readRecord, writeRecord, from}
+use Rattle.contract.specs.Contract.{data42Of, data50Of, numbers42, numbers50, headNumbers, withRest, isCarnet, isUrban, tableOf, follow, contractOf, known, contractRead, suit, agrees, carnet, urban, numbersOf, disagreement, contractWritten}
 use Rattle.records.specs.declared.Refusal.{Refusal}
 use Rattle.contract.specs.declared.Data.{Data}
 use Rattle.contract.specs.declared.Data.the-variants.{Nothing, Carnet, Urban}
@@ -33,8 +34,8 @@ abbrev Agreed : ℕ → Type 0
 Agreed kind = (c : Contract) × So (agrees kind c)
 
 -- Slots make a contract that agrees.
-agrees-of : (kind : ℕ) (vals : List ℕ) → known kind ≡ true → agrees kind (contractOf kind vals) ≡ true
-agrees-of kind vals = go (isCarnet kind) (isUrban kind) (follow (getD vals 0 0)) refl refl
+agrees-of : (kind : ℕ) (vals margin : List ℕ) → known kind ≡ true → agrees kind (contractOf kind vals margin) ≡ true
+agrees-of kind vals margin = go (isCarnet kind) (isUrban kind) (follow (getD vals 0 0)) refl refl
   where
     go : (k u f : Bool) → isCarnet kind ≡ k → isUrban kind ≡ u → (k || u) ≡ true
         → suit kind f (pick f (pick k (Carnet (data42Of vals)) (Urban (data50Of vals))) Nothing) ≡ true
@@ -45,14 +46,14 @@ agrees-of kind vals = go (isCarnet kind) (isUrban kind) (follow (getD vals 0 0))
     go false false f carnet urban h = absurd (false≢true h)
 
 -- A contract that agrees is that of its numbers.
-contract-back : (kind : ℕ) (c : Contract) → agrees kind c ≡ true → contractOf kind (numbersOf kind c) ≡ c
+contract-back : (kind : ℕ) (c : Contract) → agrees kind c ≡ true → contractOf kind (numbersOf kind c) (wordsOf (c .margin)) ≡ c
 contract-back kind c = go (c .«data») (isCarnet kind) (follow (c .bitmap)) refl
   where
     slotsFor : Data → Bool → List ℕ
     slotsFor d k = headNumbers c ++ pick k (numbers42 (carnet d)) (numbers50 (urban d))
 
     go : (d : Data) (k f : Bool) → isCarnet kind ≡ k → suit kind f d ≡ true
-        → withData c (pick f (pick k (Carnet (data42Of (slotsFor d k))) (Urban (data50Of (slotsFor d k)))) Nothing) ≡ withData c d
+        → withRest c (pick f (pick k (Carnet (data42Of (slotsFor d k))) (Urban (data50Of (slotsFor d k)))) Nothing) (c .margin) ≡ withRest c d (c .margin)
     go Nothing k true carnet h = absurd (false≢true h)
     go Nothing k false carnet h = refl
     go (Carnet d) true true carnet h = refl
@@ -63,11 +64,15 @@ contract-back kind c = go (c .«data») (isCarnet kind) (follow (c .bitmap)) ref
     go (Urban d) k false carnet h = absurd (false≢true h)
 
 -- The numbers of a contract that was read are those read.
-contract-forth : (kind : ℕ) (bs : List Bool) {vals : List ℕ} {end : ℕ} → read (tableOf kind) bs ≡ done vals end → numbersOf kind (contractOf kind vals) ≡ vals
+contract-forth : (kind : ℕ) (bs : List Bool) (margin : List ℕ) {c : Content} {end : ℕ} → read (tableOf kind) bs ≡ done c end
+    → numbersOf kind (contractOf kind (c .numbers) margin) ≡ c .numbers
 unfolding head data42 data50 contract42 contract50
-contract-forth kind bs {vals} {end} = go (isCarnet kind) (follow (getD vals 0 0)) refl
+contract-forth kind bs margin {c} {end} = go (isCarnet kind) (follow (getD (c .numbers) 0 0)) refl
   where
-    go : (k f : Bool) → follow (getD vals 0 0) ≡ f → read (pick k contract42 contract50) bs ≡ done vals end
+    vals : List ℕ
+    vals = c .numbers
+
+    go : (k f : Bool) → follow (getD vals 0 0) ≡ f → read (pick k contract42 contract50) bs ≡ done c end
         → from 0 9 vals
         ++ pick k (numbers42 (carnet (pick f (pick k (Carnet (data42Of vals)) (Urban (data50Of vals))) Nothing)))
         (numbers50 (urban (pick f (pick k (Carnet (data42Of vals)) (Urban (data50Of vals))) Nothing)))
@@ -86,15 +91,18 @@ contract-forth kind bs {vals} {end} = go (isCarnet kind) (follow (getD vals 0 0)
         ap (λ (l : List ℕ). from 0 9 vals ++ l) (sym zeros) ∙ all
 
 -- The values of a type are those that agree.
-abbrev agreedOf : (kind : ℕ) → known kind ≡ true → List ℕ → Agreed kind
-agreedOf kind there vals = (contractOf kind vals, agrees-of kind vals there)
+abbrev agreedOf : (kind : ℕ) → known kind ≡ true → List ℕ → List ℕ → Agreed kind
+agreedOf kind there vals margin = (contractOf kind vals margin, agrees-of kind vals margin there)
 
-view : (kind : ℕ) (there : known kind ≡ true) → View (tableOf kind) 232 (λ (a : Agreed kind). numbersOf kind (a .0)) (agreedOf kind there)
+view : (kind : ℕ) (there : known kind ≡ true)
+    → View (tableOf kind) 232 4 (λ (a : Agreed kind). numbersOf kind (a .0)) (λ (a : Agreed kind). wordsOf (a .0 .margin)) (agreedOf kind there)
 view kind there =
     record {
       sized = λ a. contract-sized kind (a .0);
+      margins = λ a. refl;
       back = λ a. Σ-prop-path (λ c. So-prop (agrees kind c)) (contract-back kind (a .0) (a .1));
-      forth = λ bs long h. contract-forth kind bs h;
+      forth = λ bs margin long h. contract-forth kind bs margin h;
+      kept = λ vals margin long. from-all 4 margin long;
     }
 
 same : (kind : ℕ) (a b : Agreed kind) → Read (a .0) ≡ Read (b .0) → a ≡ b
@@ -105,7 +113,7 @@ apart r c h = let z : _≡_ {A = ℕ} 0 1 = cc in omega arith
 
 -- The table of a type, read from a record.
 abbrev reads : ℕ → List ℕ → ContractRead
-reads kind bytes = readRecord (λ vals. Read (contractOf kind vals)) Refused (tableOf kind) bytes
+reads kind bytes = readRecord (λ vals margin. Read (contractOf kind vals margin)) Refused (tableOf kind) bytes
 
 -- Under a type that there is, reading a contract is reading its table; under no other is a contract read.
 read-known : (kind : ℕ) (bytes : List ℕ) → known kind ≡ true → contractRead kind bytes ≡ reads kind bytes
@@ -113,7 +121,7 @@ unfolding readRecord
 read-known kind bytes there = rw there (go (eqb (length bytes) 29))
   where
     x : ContractRead
-    x = answered (λ vals. Read (contractOf kind vals)) Refused (read (tableOf kind) (spread 8 bytes))
+    x = answered (valued 4 (λ vals margin. Read (contractOf kind vals margin))) Refused (read (tableOf kind) (spread 8 bytes))
 
     go : (b : Bool) → pick b (pick b x (Refused (refusal 1 0))) (Refused (refusal 1 0)) ≡ pick b x (Refused (refusal 1 0))
     go true = refl
@@ -132,39 +140,42 @@ agrees-read : (kind : ℕ) (bytes : List ℕ) (c : Contract) → known kind ≡ 
 unfolding readRecord
 agrees-read kind bytes c there = go (eqb (length bytes) 29) (read (tableOf kind) (spread 8 bytes))
   where
-    go : (l : Bool) (o : Outcome (List ℕ)) → pick l (answered (λ vals. Read (contractOf kind vals)) Refused o) (Refused (refusal 1 0)) ≡ Read c
+    go : (l : Bool) (o : Outcome Content)
+        → pick l (answered (valued 4 (λ vals margin. Read (contractOf kind vals margin))) Refused o) (Refused (refusal 1 0)) ≡ Read c
         → agrees kind c ≡ true
-    go true (done vals end) h = let made : contractOf kind vals ≡ c = cc in sym (ap (agrees kind) made) ∙ agrees-of kind vals there
+    go true (done r end) h =
+        let margin : List ℕ = cut 64 64 4 (r .margin) in
+        let made : contractOf kind (r .numbers) margin ≡ c = cc in
+        sym (ap (agrees kind) made) ∙ agrees-of kind (r .numbers) margin there
     go true (refused n at i) h = absurd (apart (refusalAt n at i) c h)
     go false o h = absurd (apart (refusal 1 0) c h)
 
 -- A contract that agrees is written by its table; no other is.
 write-known : (kind : ℕ) (c : Contract) (before : List ℕ) → known kind ≡ true → agrees kind c ≡ true
-    → contractWritten kind c before ≡ writeRecord (tableOf kind) (numbersOf kind c) before
+    → contractWritten kind c before ≡ writeRecord (tableOf kind) (numbersOf kind c) (wordsOf (c .margin)) before
 unfolding writeRecord
 write-known kind c before there agree = rw (there, agree) (go (eqb (length before) 29))
   where
     x : Written
-    x = written before (write (tableOf kind) 232 (numbersOf kind c))
+    x = written before (write (tableOf kind) 232 (content (numbersOf kind c) (wordsOf (c .margin))))
 
     go : (b : Bool) → pick b (pick b x (denied (refusal 1 0) before)) (denied (refusal 1 0) before) ≡ pick b x (denied (refusal 1 0) before)
     go true = refl
     go false = refl
 
 not-disagreed : (c : Contract) (before after : List ℕ) → disagreement c before ≡ accepted after → ⊥
-not-disagreed c before after = go (write head 232 (headNumbers c)) refl
+not-disagreed c before after = go (walk 232 (slotsOf (headNumbers c)) head 0 [] 0) (walk-written head 232 (headNumbers c))
   where
-    go : (o : Outcome (List Bool)) → write head 232 (headNumbers c) ≡ o
-        → written before (andThen o (λ bs end. refused 7 end 9)) ≡ accepted after → ⊥
-    go (done bs end) e h = let z : _≡_ {A = ℕ} 7 0 = ap (λ (w : Written). w .answer .number) h in omega arith
-    go (refused n at i) e h = write-refused head 232 (headNumbers c) e (ap (λ (w : Written). w .answer .number) h)
+    go : (o : Outcome (List ℕ)) → Refuses (writeNumbers 232 head) o → written before (andThen o (λ vals end. refused 7 end 9)) ≡ accepted after → ⊥
+    go (done vals end) why h = let z : _≡_ {A = ℕ} 7 0 = ap (λ (w : Written). w .answer .number) h in omega arith
+    go (refused n at i) why h = why .some (ap (λ (w : Written). w .answer .number) h)
 
 known-written : (kind : ℕ) (c : Contract) (before after : List ℕ) → contractWritten kind c before ≡ accepted after
     → (known kind ≡ true) × (agrees kind c ≡ true)
 known-written kind c before after = go (eqb (length before) 29) (known kind) (agrees kind c)
   where
     x : Written
-    x = writeRecord (tableOf kind) (numbersOf kind c) before
+    x = writeRecord (tableOf kind) (numbersOf kind c) (wordsOf (c .margin)) before
 
     go : (l t a : Bool) → pick l (pick t (pick a x (disagreement c before)) (denied (refusal 3 0) before)) (denied (refusal 1 0) before) ≡ accepted after
         → (t ≡ true) × (a ≡ true)
@@ -183,18 +194,18 @@ contract-read-write kind bytes onto c small long h =
     write-known kind c onto there agree
     ∙ record-read-write (λ (a : Agreed kind). Read (a .0)) Refused (same kind) (λ r a. apart r (a .0)) (view kind there) bytes onto (c, agree) small long reading
 
-pub contract-write-read : (kind : ℕ) (before after : List ℕ) (c : Contract)
+pub contract-write-read : (kind : ℕ) (before after : List ℕ) (c : Contract) → ((i : ℕ) → getD (wordsOf (c .margin)) i 0 < 2 ^ 64)
     → contractWritten kind c before ≡ accepted after
     → contractRead kind after ≡ Read c
-contract-write-read kind before after c h =
+contract-write-read kind before after c small h =
     let (there, agree) = known-written kind c before after h in
     read-known kind after there
-    ∙ record-write-read (λ (a : Agreed kind). Read (a .0)) Refused (same kind) (λ r a. apart r (a .0)) (view kind there) before after (c, agree)
+    ∙ record-write-read (λ (a : Agreed kind). Read (a .0)) Refused (same kind) (λ r a. apart r (a .0)) (view kind there) before after (c, agree) small
     (sym (write-known kind c before there agree) ∙ h)
 
 -- The numbers that the tables of both types refuse with.
 contract-numbers : (t : Bool)
-    → (within (1 ∷ readNumbers 232 (pick t contract42 contract50)) (1 ∷ 3 ∷ 2 ∷ 4 ∷ 5 ∷ []) ≡ true)
+    → (within (1 ∷ walkNumbers 232 (pick t contract42 contract50)) (1 ∷ 3 ∷ 2 ∷ 4 ∷ []) ≡ true)
     × (within (1 ∷ writeNumbers 232 (pick t contract42 contract50)) (1 ∷ 3 ∷ 7 ∷ 2 ∷ 4 ∷ []) ≡ true)
 unfolding head data42 data50 contract42 contract50
 contract-numbers true = (refl, refl)
@@ -204,12 +215,12 @@ contract-numbers false = (refl, refl)
 disagreement-comes : (c : Contract) (before : List ℕ) → ComesTo accepted (unwritten before) (7 ∷ []) (disagreement c before)
 unfolding head
 disagreement-comes c before =
-    written-comes before (andThen (write head 232 (headNumbers c)) (λ bs end. refused 7 end 9))
-    (refuses-then (7 ∷ []) (write head 232 (headNumbers c)) (λ bs end. refused 7 end 9) (write-number head 232 (headNumbers c))
-    (λ bs end. record { some = λ z. omega arith; listed = refl; named = refl }))
+    written-comes before (andThen (walk 232 (slotsOf (headNumbers c)) head 0 [] 0) (λ vals end. refused 7 end 9))
+    (refuses-then (7 ∷ []) (walk 232 (slotsOf (headNumbers c)) head 0 [] 0) (λ vals end. refused 7 end 9) (walk-written head 232 (headNumbers c))
+    (λ vals end. record { some = λ z. omega arith; listed = refl; named = refl }))
 
 -- The refusals of a reading and of a writing.
-pub contract-comes : (kind : ℕ) (bytes : List ℕ) → ComesTo Read Refused (1 ∷ 3 ∷ 2 ∷ 4 ∷ 5 ∷ []) (contractRead kind bytes)
+pub contract-comes : (kind : ℕ) (bytes : List ℕ) → ComesTo Read Refused (1 ∷ 3 ∷ 2 ∷ 4 ∷ []) (contractRead kind bytes)
 contract-comes kind bytes =
     either (eqb (length bytes) 29)
     (either (known kind) (comes-within (record-comes (contractOf kind) (tableOf kind) bytes) (contract-numbers (isCarnet kind) .0)) (stops (refusal 3 0) refl refl refl))
@@ -220,7 +231,7 @@ pub contract-write-comes : (kind : ℕ) (c : Contract) (before : List ℕ)
 contract-write-comes kind c before =
     either (eqb (length before) 29)
     (either (known kind)
-    (either (agrees kind c) (comes-within (record-write-comes (tableOf kind) (numbersOf kind c) before) (contract-numbers (isCarnet kind) .1))
+    (either (agrees kind c) (comes-within (record-write-comes (tableOf kind) (numbersOf kind c) (wordsOf (c .margin)) before) (contract-numbers (isCarnet kind) .1))
     (comes-within (disagreement-comes c before) refl))
     (stops (refusal 3 0) refl refl refl))
     (stops (refusal 1 0) refl refl refl)

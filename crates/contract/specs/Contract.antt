@@ -1,5 +1,5 @@
--- Contract as a value: the numbers of the head, and the data that follow it: none, those of 42h or those of 50h. Document 01,
--- "Contract, common head".
+-- Contract as a value: the numbers of the head, the data that follow it (none, those of 42h or those of 50h), and its margin. Document
+-- 01, "Contract, common head"; 02, Q-7.
 use Prim.Native.Nat.{ℕ, _/_, _^_}
 use mathlib.Core.Bool.{Bool, not, _&&_, _||_}
 use mathlib.Core.List.{List, [], _∷_, _++_}
@@ -7,7 +7,9 @@ use lib.Dec.{eqb}
 use lib.ListN.{length, getD}
 use Rattle.bits.specs.Bits.{odd}
 use Rattle.rows.specs.Row.{Row, pick}
-use Rattle.rows.specs.Walk.{andThen, refused, write}
+use Rattle.rows.specs.Walk.{andThen, refused, walk, slotsOf}
+use Rattle.rows.specs.Margin.{wordsOf, marginOf}
+use Rattle.rows.specs.declared.margin.Margin.{Margin}
 use Rattle.rows.specs.table.Contract.{head, contract42, contract50}
 use Rattle.records.specs.Answer.{Written, Told, toldValue, toldRefusal, refusal, denied, written, readRecord, writeRecord}
 use Rattle.contract.specs.declared.Data42.{Data42}
@@ -147,7 +149,7 @@ data50Of vals =
       intermodal = getD vals 44 0;
     }
 
--- A contract of the head's slots, with no data.
+-- A contract of the head's slots, with no data and nothing in its margin.
 abbrev pub headOf : List ℕ → Contract
 headOf vals =
     record {
@@ -161,11 +163,12 @@ headOf vals =
       «end_date» = getD vals 7 0;
       status = getD vals 8 0;
       «data» = Nothing;
+      margin = marginOf [];
     }
 
--- The head of a contract with these data.
-abbrev pub withData : Contract → Data → Contract
-withData c d =
+-- The head of a contract with these data and this margin.
+abbrev pub withRest : Contract → Data → Margin → Contract
+withRest c d m =
     record {
       bitmap = c .bitmap;
       provider = c .provider;
@@ -177,6 +180,7 @@ withData c d =
       «end_date» = c .«end_date»;
       status = c .status;
       «data» = d;
+      margin = m;
     }
 
 -- The type 42h.
@@ -200,9 +204,9 @@ abbrev pub dataOf : ℕ → List ℕ → Data
 dataOf kind vals =
     pick (follow (getD vals 0 0)) (pick (isCarnet kind) (Carnet (data42Of vals)) (Urban (data50Of vals))) Nothing
 
--- A contract of the slots of its type's table.
-abbrev pub contractOf : ℕ → List ℕ → Contract
-contractOf kind vals = withData (headOf vals) (dataOf kind vals)
+-- A contract of the slots of its type's table and the words of its margin.
+abbrev pub contractOf : ℕ → List ℕ → List ℕ → Contract
+contractOf kind vals margin = withRest (headOf vals) (dataOf kind vals) (marginOf margin)
 
 -- The types that there are.
 abbrev pub known : ℕ → Bool
@@ -216,8 +220,8 @@ dataTold (Urban d) = 80 ∷ numbers50 d
 
 -- The cases of the answer to a reading, each by its number, its place, its field and its values.
 abbrev pub contractTold : ContractRead → Told
-contractTold (Read c) = toldValue (headNumbers c ++ dataTold (c .«data»))
-contractTold (Refused r) = toldRefusal 10 r
+contractTold (Read c) = toldValue (headNumbers c ++ (dataTold (c .«data») ++ wordsOf (c .margin)))
+contractTold (Refused r) = toldRefusal 14 r
 
 -- Refusal 1 for the length comes first, then 3 for the type.
 abbrev pub checked : {A : Type 0} → ℕ → List ℕ → A → (ℕ → A) → A
@@ -226,7 +230,7 @@ checked kind bytes go stop = pick (eqb (length bytes) 29) (pick (known kind) go 
 -- Reading a contract under a type.
 abbrev pub contractRead : ℕ → List ℕ → ContractRead
 contractRead kind bytes =
-    checked kind bytes (readRecord (λ vals. Read (contractOf kind vals)) Refused (tableOf kind) bytes) (λ n. Refused (refusal n 0))
+    checked kind bytes (readRecord (λ vals margin. Read (contractOf kind vals margin)) Refused (tableOf kind) bytes) (λ n. Refused (refusal n 0))
 
 -- Data agree with bit [6] and the type: none where it is zero, those of the type where it is one.
 abbrev pub suit : ℕ → Bool → Data → Bool
@@ -257,11 +261,11 @@ numbersOf kind c = headNumbers c ++ pick (isCarnet kind) (numbers42 (carnet (c .
 -- Data that do not agree: 7 at the first bit after the head, as a whole under the rank of their first field, if the head has no
 -- fault. Document 02, Q-2.
 abbrev pub disagreement : Contract → List ℕ → Written
-disagreement c before = written before (andThen (write head 232 (headNumbers c)) (λ bs end. refused 7 end 9))
+disagreement c before = written before (andThen (walk 232 (slotsOf (headNumbers c)) head 0 [] 0) (λ vals end. refused 7 end 9))
 
 -- Writing a contract under a type.
 abbrev pub contractWritten : ℕ → Contract → List ℕ → Written
 contractWritten kind c before =
     checked kind before
-    (pick (agrees kind c) (writeRecord (tableOf kind) (numbersOf kind c) before) (disagreement c before))
+    (pick (agrees kind c) (writeRecord (tableOf kind) (numbersOf kind c) (wordsOf (c .margin)) before) (disagreement c before))
     (λ n. denied (refusal n 0) before)

@@ -1,14 +1,16 @@
 // Contract, of type 42h or 50h.
 ghost use mathlib.Core.Path.{_≡_};
+ghost use mathlib.Core.Bool.{Bool};
 ghost use mathlib.Core.List.{List, [], _∷_, _++_};
 ghost use Prim.Native.Nat.{ℕ};
 ghost use lib.ListN.{length, take, drop};
 ghost use Rattle.rows.specs.inner.Step.{Ready, Drafted};
-ghost use Rattle.rows.specs.inner.Line.{start, Taken, Given, Puts};
+ghost use Rattle.rows.specs.inner.Line.{start, Taken, Given};
 ghost use Rattle.rows.specs.table.Contract.{head, data42, data50};
-ghost use Rattle.contract.specs.Contract.{behind, headNumbers, numbers42, numbers50, follow, known, withData, agrees, carnet, urban, contractTold, contractRead, contractWritten};
+ghost use Rattle.contract.specs.Contract.{behind, headNumbers, numbers42, numbers50, follow, known, withRest, agrees, carnet, urban, contractTold, contractRead, contractWritten};
+ghost use Rattle.bits.specs.Bits.{cut, cleared};
+ghost use Rattle.rows.specs.Margin.{marginOf};
 ghost use Rattle.contract.specs.inner.Steps.{disagreed, PutOf};
-ghost use Rattle.records.specs.Answer.{Written};
 ghost use Rattle.records.specs.inner.Met.{met};
 use records::BITS;
 use records::BYTES;
@@ -16,6 +18,8 @@ use records::LAST_MINUTE;
 use records::Refusal;
 use rows::Cursor;
 use rows::When;
+use rows::margin;
+use rows::margin::Margin;
 use rows::put;
 use rows::take;
 
@@ -90,6 +94,7 @@ pub struct Contract {
     pub end_date: u32,
     pub status: u32,
     pub data: Data,
+    pub margin: Margin,
 }
 
 pub enum ContractRead {
@@ -204,36 +209,33 @@ pub fn read(bytes: &[u8], kind: u32) -> ContractRead
     let head = fields.value;
     let last = fields.last;
     if !follow(head.bitmap) {
-        let end = take::end(&words, BITS, last);
-        if end.why != 0 {
-            return refused(end);
+        if last.why != 0 {
+            return refused(last);
         }
-        return ContractRead::Read(with_data(head, Data::Nothing));
+        return whole(head, Data::Nothing, &words, last.at);
     }
     if kind == Contract::CARNET {
         let carnet = take_carnet(&words, last, head.bitmap);
         let last = carnet.last;
-        let end = take::end(&words, BITS, last);
-        if end.why != 0 {
-            return refused(end);
+        if last.why != 0 {
+            return refused(last);
         }
         let data = carnet.data;
-        return ContractRead::Read(with_data(head, Data::Carnet(data)));
+        return whole(head, Data::Carnet(data), &words, last.at);
     }
     let urban = take_urban(&words, last, head.bitmap);
     let last = urban.last;
-    let end = take::end(&words, BITS, last);
-    if end.why != 0 {
-        return refused(end);
+    if last.why != 0 {
+        return refused(last);
     }
     let data = urban.data;
-    ContractRead::Read(with_data(head, Data::Urban(data)))
+    whole(head, Data::Urban(data), &words, last.at)
 }
 
-fn refused(end: Cursor) -> ContractRead
-    ensures { λ r. ⌜ r ≡ ContractRead.Refused (met end) ⌝ }
+fn refused(last: Cursor) -> ContractRead
+    ensures { λ r. ⌜ r ≡ ContractRead.Refused (met last) ⌝ }
 {
-    ContractRead::Refused(Refusal::met(end))
+    ContractRead::Refused(Refusal::met(last))
 }
 
 // Whether the data follow the head: bit [6] of its bitmap.
@@ -243,10 +245,13 @@ fn follow(bitmap: u32) -> bool
     (bitmap >> 6) % 2 == 1
 }
 
-fn with_data(head: Contract, data: Data) -> Contract
-    ensures { λ r. ⌜ r ≡ withData head «data» ⌝ }
+// A contract with its data, and with what stands from bit at on as its margin.
+fn whole(head: Contract, data: Data, words: &[u64], at: u32) -> ContractRead
+    requires { ⌜ length (now words) ≡ 8 ⌝ }
+    ensures { λ r. ⌜ ((bs : List Bool) → now (words .entry) ≡ cut 32 64 8 bs
+        → r ≡ ContractRead.Read (withRest head «data» (marginOf (cut 64 64 4 (cleared at bs))))) ⌝ }
 {
-    Contract {
+    ContractRead::Read(Contract {
         bitmap: head.bitmap,
         provider: head.provider,
         tariff: head.tariff,
@@ -257,7 +262,8 @@ fn with_data(head: Contract, data: Data) -> Contract
         end_date: head.end_date,
         status: head.status,
         data,
-    }
+        margin: margin::take(words, at),
+    })
 }
 
 fn take_head(words: &[u64]) -> Fields
@@ -285,6 +291,7 @@ fn take_head(words: &[u64]) -> Fields
             end_date: end_date.number,
             status: status.number,
             data: Data::Nothing,
+            margin: Margin::NONE,
         },
         last: status,
     }
@@ -485,8 +492,12 @@ pub fn write(bytes: &mut [u8], kind: u32, c: Contract) -> Refusal
     }
     let mut draft = [0u64; 9];
     let last = put_fields(&mut draft, kind, c);
-    put::end(&draft, last, bytes);
-    Refusal::met(last)
+    if last.why != 0 {
+        return Refusal::met(last);
+    }
+    let end = margin::put(&mut draft, BITS, last, c.margin);
+    put::end(&draft, end, bytes);
+    Refusal::met(end)
 }
 
 fn put_fields(draft: &mut [u64], kind: u32, c: Contract) -> Cursor
@@ -572,7 +583,7 @@ fn put_head(draft: &mut [u64], c: Contract) -> Cursor
 
 fn put_carnet(draft: &mut [u64], at: Cursor, bitmap: u32, d: Data42) -> Cursor
     requires { ⌜ Drafted (now draft) 232 at ⌝ }
-    ensures { λ r. ⌜ ((h : Contract) → Puts 232 (bitmap ∷ behind h ++ numbers42 d) data42 (bitmap ∷ behind h) (now (draft .entry)) at (bitmap ∷ behind h ++ numbers42 d) (now (draft .exit)) r) ⌝ }
+    ensures { λ r. ⌜ ((h : Contract) → Given 232 (bitmap ∷ behind h ++ numbers42 d) data42 (bitmap ∷ behind h) (now (draft .entry)) at (bitmap ∷ behind h ++ numbers42 d) (now (draft .exit)) r) ⌝ }
 {
     let follow = When::Bit(bitmap, 6);
     let at = put::number(draft, BITS, at, follow, 11, d.pay_method);
@@ -588,7 +599,7 @@ fn put_carnet(draft: &mut [u64], at: Cursor, bitmap: u32, d: Data42) -> Cursor
 
 fn put_urban(draft: &mut [u64], at: Cursor, bitmap: u32, d: Data50) -> Cursor
     requires { ⌜ Drafted (now draft) 232 at ⌝ }
-    ensures { λ r. ⌜ ((h : Contract) → Puts 232 (bitmap ∷ behind h ++ numbers50 d) data50 (bitmap ∷ behind h) (now (draft .entry)) at (bitmap ∷ behind h ++ numbers50 d) (now (draft .exit)) r) ⌝ }
+    ensures { λ r. ⌜ ((h : Contract) → Given 232 (bitmap ∷ behind h ++ numbers50 d) data50 (bitmap ∷ behind h) (now (draft .entry)) at (bitmap ∷ behind h ++ numbers50 d) (now (draft .exit)) r) ⌝ }
 {
     let terms = put_terms(draft, at, bitmap, d);
     let purse = put_purse(draft, terms, d);
@@ -664,7 +675,7 @@ fn put_stops(draft: &mut [u64], at: Cursor, d: Data50) -> Cursor
 // Groups [11] to [15].
 fn put_limits(draft: &mut [u64], at: Cursor, d: Data50) -> Cursor
     requires { ⌜ Drafted (now draft) 232 at ⌝ }
-    ensures { λ r. ⌜ ((n : ℕ) (h : Contract) → Puts 232 (n ∷ behind h ++ numbers50 d) (drop 31 data50) (n ∷ behind h ++ take 31 (numbers50 d)) (now (draft .entry)) at (n ∷ behind h ++ numbers50 d) (now (draft .exit)) r) ⌝ }
+    ensures { λ r. ⌜ ((n : ℕ) (h : Contract) → Given 232 (n ∷ behind h ++ numbers50 d) (drop 31 data50) (n ∷ behind h ++ take 31 (numbers50 d)) (now (draft .entry)) at (n ∷ behind h ++ numbers50 d) (now (draft .exit)) r) ⌝ }
 {
     let groups = d.bitmap;
     let at = put::number(draft, BITS, at, When::Bit(groups, 11), 14, d.weekly);

@@ -13,6 +13,7 @@ use lib.Seq.{take-suc, take-suc-set, drop-set-lt, take-all, getD-drop, drop-drop
 use Rattle.bits.specs.Bits.{odd, bitsOf, bitsOn, spread, cut, join}
 use Rattle.bits.proofs.Cutting.{cut-spread}
 use Rattle.bits.proofs.Spelling.{length-bits-of}
+use Rattle.rows.proofs.Boxes.{join-append}
 use Rattle.gate.specs.Writes.{only, applied, writesOf}
 
 even : (n : ℕ) → odd n ≡ false → n % 2 ≡ 0
@@ -122,13 +123,6 @@ module _ (f : ℕ → ℕ → ℕ) where
       ap (λ (l : List Bool). l ++ spread 8 (zipped f xs ys)) first
       ∙ ap (λ (l : List Bool). g (bitsOf 8 x) (bitsOf 8 y) ++ l) rest
       ∙ sym (joins (bitsOf 8 x) (spread 8 xs) (bitsOf 8 y) (spread 8 ys) (length-bits-of 8 x ∙ sym (length-bits-of 8 y)))
-
-join-append : (xs xt ys yt : List Bool) → length xs ≡ length ys → join (xs ++ xt) (ys ++ yt) ≡ join xs ys ++ join xt yt
-join-append [] xt [] yt e = refl
-join-append [] xt (y ∷ ys) yt e = absurd (omega arith)
-join-append (x ∷ xs) xt [] yt e = absurd (omega arith)
-join-append (true ∷ xs) xt (y ∷ ys) yt e = ap (λ (l : List Bool). true ∷ l) (join-append xs xt ys yt (omega arith))
-join-append (false ∷ xs) xt (y ∷ ys) yt e = ap (λ (l : List Bool). y ∷ l) (join-append xs xt ys yt (omega arith))
 
 only-append : (xs xt ys yt : List Bool) → length xs ≡ length ys → only (xs ++ xt) (ys ++ yt) ≡ only xs ys ++ only xt yt
 only-append [] xt [] yt e = refl

@@ -1,6 +1,6 @@
--- Demand 3's last sentence, for contracts: where a contract reads and no write touches its bitmaps or the bits past its end, it
--- still reads, each number with just the written bits of its own box raised; only if its minute so passes 1439 is it refused,
--- with 4 at that minute. Over any list of accepted calls.
+-- Demand 3's last sentence, for contracts, as 02, Q-7 moves it: where a contract reads and no write touches its bitmaps, it still reads,
+-- each number with just the written bits of its own box raised and its margin with just those past the end; only if its minute so
+-- passes 1439 is it refused, with 4 at that minute. Over any list of accepted calls.
 use Prim.Native.Nat.{ℕ, suc, _+_}
 use mathlib.Core.List.{List, [], _∷_, _++_}
 use mathlib.Core.Bool.{Bool, true, false, _&&_, true≢false}
@@ -11,15 +11,15 @@ use lib.Dec.{eqb, ltb}
 use borrow.Author.Tests.{eqb-true, eq-eqb}
 use lib.ListN.{length, getD, take, drop}
 use lib.Seq.{drop-drop, take-add, getD-take, getD-drop}
-use Rattle.bits.specs.Bits.{spread}
+use Rattle.bits.specs.Bits.{cut, spread, join, cleared}
 use Rattle.rows.specs.Row.{Row, bit, minute, pick}
-use Rattle.rows.specs.Walk.{Outcome, done, refused, total, slots, read, frame}
-use Rattle.rows.specs.Raise.{judge, judgeOn, after}
+use Rattle.rows.specs.Walk.{Outcome, done, refused, andThen, Content, total, slots, read, frame}
+use Rattle.rows.specs.Raise.{judge, judgeOn, after, raisedTo}
 use Rattle.rows.specs.declared.Rule.{Rule}
 use Rattle.rows.specs.declared.Rule.the-variants.{Any, Most, Tariff, NoSecond}
 use Rattle.rows.specs.table.Contract.{head, data42, data50, contract42, contract50}
 use Rattle.rows.proofs.Boxes.{total-append}
-use Rattle.records.specs.Answer.{refusal, refusalAt, answered, readRecord}
+use Rattle.records.specs.Answer.{refusal, refusalAt, answered, valued, readRecord}
 use Rattle.contract.specs.Contract.{tableOf, contractOf, known, contractRead}
 use Rattle.records.specs.declared.Refusal.{Refusal}
 use Rattle.contract.specs.declared.Contract.{Contract}
@@ -127,77 +127,88 @@ called-length bytes (c ∷ cs) long (first, rest) = called-length (applying byte
 
 -- What a contract that was read was read from.
 pub record Slots (kind : ℕ) (bytes : List ℕ) (c : Contract) : Type 0 where
-  pub vals : List ℕ
+  pub held : Content
   pub end : ℕ
-  pub reads : read (tableOf kind) (spread 8 bytes) ≡ done vals end
-  pub value : contractOf kind vals ≡ c
+  pub reads : read (tableOf kind) (spread 8 bytes) ≡ done held end
+  pub value : contractOf kind (held .numbers) (cut 64 64 4 (held .margin)) ≡ c
   pub long : length bytes ≡ 29
   pub type : known kind ≡ true
+
+-- The answer to a contract's reading.
+abbrev answerOf : ℕ → Outcome Content → ContractRead
+answerOf kind o = answered (valued 4 (λ vals margin. Read (contractOf kind vals margin))) Refused o
 
 pub contract-slots : (kind : ℕ) (bytes : List ℕ) (c : Contract) → contractRead kind bytes ≡ Read c → Slots kind bytes c
 unfolding readRecord
 contract-slots kind bytes c = go (eqb (length bytes) 29) (known kind) (read (tableOf kind) (spread 8 bytes)) refl refl refl
   where
-    out : (a b : Bool) → Outcome (List ℕ) → ContractRead
-    out a b o =
-        pick a (pick b (pick a (answered (λ vals. Read (contractOf kind vals)) Refused o) (Refused (refusal 1 0))) (Refused (refusal 3 0))) (Refused (refusal 1 0))
+    out : (a b : Bool) → Outcome Content → ContractRead
+    out a b o = pick a (pick b (pick a (answerOf kind o) (Refused (refusal 1 0))) (Refused (refusal 3 0))) (Refused (refusal 1 0))
 
     never : {X : Type 0} (r : Refusal) → Refused r ≡ Read c → X
     never r h = let z : _≡_ {A = ℕ} 0 1 = cc in absurd (omega arith)
 
-    go : (a b : Bool) (o : Outcome (List ℕ)) → eqb (length bytes) 29 ≡ a → known kind ≡ b → read (tableOf kind) (spread 8 bytes) ≡ o
+    go : (a b : Bool) (o : Outcome Content) → eqb (length bytes) 29 ≡ a → known kind ≡ b → read (tableOf kind) (spread 8 bytes) ≡ o
         → out a b o ≡ Read c → Slots kind bytes c
-    go true true (done vals end) e f g h = record { vals = vals; end = end; reads = g; value = cc; long = eqb-true _ _ e; type = f }
+    go true true (done held end) e f g h = record { held = held; end = end; reads = g; value = cc; long = eqb-true _ _ e; type = f }
     go true true (refused n at i) e f g h = never (refusalAt n at i) h
     go true false o e f g h = never (refusal 3 0) h
     go false b o e f g h = never (refusal 1 0) h
 
-module _ (kind slot : ℕ) (judged : Judged (tableOf kind) slot) (bytes : List ℕ) (calls : List (List ℕ)) (c : Contract) (s : Slots kind bytes c)
-    (accepted : AllAccepted bytes calls)
-    (spare : AllSpare (tableOf kind) (s .vals) (s .end) (writesIn calls)) where
-  -- The numbers with the written bits of their own boxes raised.
+module _ (kind slot : ℕ) (judged : Judged (tableOf kind) slot) (bytes : List ℕ) (calls : List (List ℕ)) (c : Contract) (s : Slots kind bytes c) where
+  -- The numbers with the written bits of their own boxes raised, and the margin with those past the end.
   abbrev raised : List ℕ
-  raised = after (tableOf kind) (s .vals) (together (writesIn calls))
+  raised = after (tableOf kind) (s .held .numbers) (together (writesIn calls))
 
-  contract-raised : contractRead kind (called bytes calls)
-      ≡ pick (ltb 1439 (getD raised slot 0)) (Refused (refusalAt 4 (total (take slot (frame (tableOf kind) (s .vals)))) slot)) (Read (contractOf kind raised))
-  unfolding readRecord
-  contract-raised =
+  abbrev raisedMargin : List ℕ
+  raisedMargin = cut 64 64 4 (join (s .held .margin) (cleared (s .end) (together (writesIn calls))))
+
+  contract-raised : AllAccepted bytes calls → AllSpare (tableOf kind) (s .held .numbers) (writesIn calls)
+      → contractRead kind (called bytes calls)
+      ≡ pick (ltb 1439 (getD raised slot 0)) (Refused (refusalAt 4 (total (take slot (frame (tableOf kind) (s .held .numbers)))) slot))
+      (Read (contractOf kind raised raisedMargin))
+  unfolding readRecord raisedTo
+  contract-raised accepted spare =
       let long : length (called bytes calls) ≡ 29 = called-length bytes calls (s .long) accepted in
-      let place : ℕ = total (take slot (frame (tableOf kind) (s .vals))) in
-      let told = judged (frame (tableOf kind) (s .vals)) raised in
-      let outcome : read (tableOf kind) (spread 8 (called bytes calls)) ≡ pick (ltb 1439 (getD raised slot 0)) (refused 4 place slot) (done raised (told .0)) =
-      calls-raise (tableOf kind) bytes calls (s .long) (s .reads) accepted spare ∙ told .1 in
+      let told = judged (frame (tableOf kind) (s .held .numbers)) raised in
       ap (λ (t : Bool). pick t (pick (known kind) (record-answer t) (Refused (refusal 3 0))) (Refused (refusal 1 0))) (eq-eqb _ _ long)
       ∙ ap (λ (t : Bool). pick t (record-answer true) (Refused (refusal 3 0))) (s .type)
-      ∙ ap (answered (λ vals. Read (contractOf kind vals)) Refused) outcome
-      ∙ go (ltb 1439 (getD raised slot 0)) place (told .0)
+      ∙ ap (answerOf kind) (calls-raise (tableOf kind) bytes calls (s .long) (s .reads) accepted spare)
+      ∙ ap (λ (o : Outcome (List ℕ)). answerOf kind (andThen o (λ vals last. done (keeping vals) last))) (told .1)
+      ∙ go (ltb 1439 (getD raised slot 0)) (total (take slot (frame (tableOf kind) (s .held .numbers)))) (told .0)
     where
+      keeping : List ℕ → Content
+      keeping vals = record { numbers = vals; margin = join (s .held .margin) (cleared (s .end) (together (writesIn calls))) }
+
       record-answer : Bool → ContractRead
-      record-answer t = pick t (answered (λ vals. Read (contractOf kind vals)) Refused (read (tableOf kind) (spread 8 (called bytes calls)))) (Refused (refusal 1 0))
+      record-answer t = pick t (answerOf kind (read (tableOf kind) (spread 8 (called bytes calls)))) (Refused (refusal 1 0))
 
       go : (t : Bool) (place end : ℕ)
-          → answered (λ vals. Read (contractOf kind vals)) Refused (pick t (refused 4 place slot) (done raised end))
-          ≡ pick t (Refused (refusalAt 4 place slot)) (Read (contractOf kind raised))
+          → answerOf kind (andThen (pick t (refused 4 place slot) (done raised end)) (λ vals last. done (keeping vals) last))
+          ≡ pick t (Refused (refusalAt 4 place slot)) (Read (contractOf kind raised raisedMargin))
       go true place end = refl
       go false place end = refl
 
 -- A 42h contract after accepted calls: refused only with 4 at its sale minute.
 pub carnet-raised : (bytes : List ℕ) (calls : List (List ℕ)) (c : Contract) (s : Slots 66 bytes c)
     → AllAccepted bytes calls
-    → AllSpare contract42 (s .vals) (s .end) (writesIn calls)
+    → AllSpare contract42 (s .held .numbers) (writesIn calls)
     → contractRead 66 (called bytes calls)
-    ≡ pick (ltb 1439 (getD (after contract42 (s .vals) (together (writesIn calls))) 12 0))
-    (Refused (refusalAt 4 (total (take 12 (frame contract42 (s .vals)))) 12))
-    (Read (contractOf 66 (after contract42 (s .vals) (together (writesIn calls)))))
-carnet-raised bytes calls c s accepted spare = contract-raised 66 12 carnet-judged bytes calls c s accepted spare
+    ≡ pick (ltb 1439 (getD (after contract42 (s .held .numbers) (together (writesIn calls))) 12 0))
+    (Refused (refusalAt 4 (total (take 12 (frame contract42 (s .held .numbers)))) 12))
+    (Read
+    (contractOf 66 (after contract42 (s .held .numbers) (together (writesIn calls)))
+    (cut 64 64 4 (join (s .held .margin) (cleared (s .end) (together (writesIn calls)))))))
+carnet-raised bytes calls c s = contract-raised 66 12 carnet-judged bytes calls c s
 
 -- A 50h contract after accepted calls: refused only with 4 at its end minute.
 pub urban-raised : (bytes : List ℕ) (calls : List (List ℕ)) (c : Contract) (s : Slots 80 bytes c)
     → AllAccepted bytes calls
-    → AllSpare contract50 (s .vals) (s .end) (writesIn calls)
+    → AllSpare contract50 (s .held .numbers) (writesIn calls)
     → contractRead 80 (called bytes calls)
-    ≡ pick (ltb 1439 (getD (after contract50 (s .vals) (together (writesIn calls))) 42 0))
-    (Refused (refusalAt 4 (total (take 42 (frame contract50 (s .vals)))) 42))
-    (Read (contractOf 80 (after contract50 (s .vals) (together (writesIn calls)))))
-urban-raised bytes calls c s accepted spare = contract-raised 80 42 urban-judged bytes calls c s accepted spare
+    ≡ pick (ltb 1439 (getD (after contract50 (s .held .numbers) (together (writesIn calls))) 42 0))
+    (Refused (refusalAt 4 (total (take 42 (frame contract50 (s .held .numbers)))) 42))
+    (Read
+    (contractOf 80 (after contract50 (s .held .numbers) (together (writesIn calls)))
+    (cut 64 64 4 (join (s .held .margin) (cleared (s .end) (together (writesIn calls)))))))
+urban-raised bytes calls c s = contract-raised 80 42 urban-judged bytes calls c s

@@ -10,7 +10,8 @@ use lib.Seq.{ext-getD, length-take-le, take-all}
 use borrow.Author.Tests.{eqb-true, eq-eqb, ltb-false, le-ltb}
 use Rattle.bits.specs.Bits.{spread, cut, join, leading, zeros}
 use Rattle.bits.proofs.Cutting.{length-cut, length-spread, spread-cut, cut-spread}
-use Rattle.rows.proofs.Boxes.{length-join, leading-zeros, all-leading}
+use Rattle.bits.proofs.Clearing.{leading-zeros, all-leading}
+use Rattle.rows.proofs.Boxes.{length-join}
 use Rattle.rows.specs.Row.{pick}
 use Rattle.records.specs.Answer.{Written, refusal, accepted, denied}
 use Rattle.records.proofs.Coming.{ComesTo, fine, unwritten, either, stops}

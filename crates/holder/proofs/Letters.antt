@@ -36,7 +36,7 @@ four none (a ∷ b ∷ c ∷ d ∷ []) h = refl
 four none (a ∷ b ∷ c ∷ d ∷ e ∷ l) h = absurd (omega arith)
 
 -- A Holder whose arrays have their length is the one made of its numbers.
-pub holder-back : (h : Holder) → Spelled h → length (h .profiles) ≡ 4 → holderOf (numbersOf h) ≡ h
+pub holder-back : (h : Holder) → Spelled h → length (h .profiles) ≡ 4 → holderOf (numbersOf h) (h .margin) ≡ h
 holder-back h long counted =
     rw (
       from-all 17 (h .surname) (long .surname),
@@ -44,7 +44,8 @@ holder-back h long counted =
       from-all 23 (h .«birth_place») (long .«birth_place»),
       from-all 17 (h .«birth_name») (long .«birth_name»),
       four absent (h .profiles) counted,
+      from-all 15 (h .margin) (long .margin),
     )
 
-pub read-back : (h : Holder) → Spelled h → length (h .profiles) ≡ 4 → readOf h ≡ readOf (holderOf (numbersOf h))
-read-back h long counted = rw (holder-back h long counted)
+pub read-back : {h : Holder} → Spelled h → length (h .profiles) ≡ 4 → readOf h ≡ readOf (holderOf (numbersOf h) (h .margin))
+read-back {h} long counted = rw (holder-back h long counted)

@@ -1,4 +1,4 @@
--- Holder as a value: named numbers, in the order of the table's slots. A text is a list of its letters.
+-- Holder as a value: named numbers, in the order of the table's slots, and its margin. A text is a list of its letters.
 use Prim.Native.Nat.{ℕ, _+_}
 use mathlib.Core.List.{List, [], _∷_, _++_}
 use mathlib.Core.Path.{_≡_}
@@ -56,8 +56,8 @@ numbersOf h =
     ∷ h .start4
     ∷ []))))))))
 
-abbrev pub holderOf : List ℕ → Holder
-holderOf vals =
+abbrev pub holderOf : List ℕ → List ℕ → Holder
+holderOf vals margin =
     record {
       bitmap = getD vals 0 0;
       «name_bitmap» = getD vals 1 0;
@@ -85,24 +85,26 @@ holderOf vals =
       start2 = getD vals 108 0;
       start3 = getD vals 109 0;
       start4 = getD vals 110 0;
+      margin = from 0 15 margin;
     }
 
--- The texts have their length, as every Holder's in code.
+-- The texts and the margin have their length, as every Holder's in code.
 pub record Spelled (h : Holder) : Type 0 where
   pub surname : length (h .surname) ≡ 17
   pub forename : length (h .forename) ≡ 17
   pub «birth_place» : length (h .«birth_place») ≡ 23
   pub «birth_name» : length (h .«birth_name») ≡ 17
+  pub margin : length (h .margin) ≡ 15
 
 abbrev pub readOf : Holder → HolderRead
 readOf h = record { refusal = refusal 0 0; holder = h }
 
 -- Refused, the Holder is of zeros.
 abbrev pub unread : Refusal → HolderRead
-unread r = record { refusal = r; holder = holderOf [] }
+unread r = record { refusal = r; holder = holderOf [] [] }
 
 abbrev pub holderRead : List ℕ → HolderRead
-holderRead bytes = readArea (λ vals. readOf (holderOf vals)) unread holder bytes
+holderRead bytes = readArea (λ vals margin. readOf (holderOf vals margin)) unread holder bytes
 
 abbrev pub holderWritten : List ℕ → Holder → Written
-holderWritten before h = writeArea holder (numbersOf h) before
+holderWritten before h = writeArea holder (numbersOf h) (h .margin) before

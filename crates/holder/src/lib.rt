@@ -5,15 +5,16 @@ ghost use mathlib.Core.Bool.{true};
 ghost use Prim.Native.Nat.{_≤_};
 ghost use lib.ListN.{length};
 ghost use Rattle.rows.specs.inner.Step.{Ready, Took, Drafted, Gave};
-ghost use Rattle.rows.specs.inner.Line.{start, Taken, Puts, Given};
+ghost use Rattle.rows.specs.inner.Line.{start, Taken, Given};
 ghost use Rattle.rows.specs.table.Holder.{holder};
-ghost use Rattle.records.specs.Answer.{Written, areaLength, from};
+ghost use Rattle.records.specs.Answer.{areaLength, from};
 ghost use Rattle.holder.specs.Holder.{numbersOf, unread, holderRead, holderWritten};
 ghost use Rattle.holder.specs.inner.Steps.{block, ProfileTook, ProfileGave};
 use records::Refusal;
 use rows::Cursor;
 use rows::Rule;
 use rows::When;
+use rows::margin;
 use rows::put;
 use rows::take;
 
@@ -51,6 +52,8 @@ pub struct Holder {
     pub start2: u32,
     pub start3: u32,
     pub start4: u32,
+    // as a record's, over the bits of four records and 32 that no area has
+    pub margin: [u64; 15],
 }
 
 // Refused, the Holder is of zeros.
@@ -81,7 +84,7 @@ impl Profile {
 }
 
 impl Holder {
-    // All numbers zero.
+    // All numbers zero, and nothing in the margin.
     const ZERO: Holder = Holder {
         bitmap: 0,
         name_bitmap: 0,
@@ -109,6 +112,7 @@ impl Holder {
         start2: 0,
         start3: 0,
         start4: 0,
+        margin: [0; 15],
     };
 }
 
@@ -311,11 +315,13 @@ fn read_area(bytes: &[u8]) -> HolderRead
     bits::area_words(bytes, &mut words);
     let fields = take_fields(&words, end);
     let last = fields.last;
-    let c = take::end(&words, end, last);
-    if c.why != 0 {
-        return refused(Refusal::met(c));
+    if last.why != 0 {
+        return refused(Refusal::met(last));
     }
-    let holder = fields.value;
+    let mut left = [0u64; 15];
+    margin::take_area(&words, end, last.at, &mut left);
+    let mut holder = fields.value;
+    holder.margin = left;
     HolderRead {
         refusal: Refusal::NONE,
         holder,
@@ -339,13 +345,18 @@ fn write_area(bytes: &mut [u8], h: Holder) -> Refusal
     let room = 8 * bytes.len() as u32;
     let mut draft = [0u64; 31];
     let last = put_fields(&mut draft, room, h);
-    put::end(&draft, last, bytes);
-    Refusal::met(last)
+    if last.why != 0 {
+        return Refusal::met(last);
+    }
+    let whole = h.margin;
+    let end = margin::put_area(&mut draft, room, last, &whole);
+    put::end(&draft, end, bytes);
+    Refusal::met(end)
 }
 
 fn put_fields(draft: &mut [u64], room: u32, h: Holder) -> Cursor
     requires { ⌜ (length (now draft) ≡ 31) × (room ≤ 928) ⌝ }
-    ensures { λ d. ⌜ Puts room (numbersOf h) holder [] (now (draft .entry)) start (numbersOf h) (now (draft .exit)) d ⌝ }
+    ensures { λ d. ⌜ Given room (numbersOf h) holder [] (now (draft .entry)) start (numbersOf h) (now (draft .exit)) d ⌝ }
 {
     let profiles = h.profiles;
     let profile1 = profiles[0];

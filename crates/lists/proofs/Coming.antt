@@ -9,11 +9,11 @@ use lib.ListN.{length}
 use borrow.Author.Tests.{eqb-true}
 use Rattle.bits.specs.Bits.{spread}
 use Rattle.rows.specs.Row.{Row, pick}
-use Rattle.rows.specs.Walk.{Outcome, done, refused, andThen, read, write}
-use Rattle.rows.specs.Refusing.{readNumbers, writeNumbers}
-use Rattle.rows.proofs.Refusing.{Refuses, refuses-then, refuses-behind, write-number}
+use Rattle.rows.specs.Walk.{Outcome, done, refused, andThen, readBare, writeBare}
+use Rattle.rows.specs.Refusing.{bareNumbers, writeNumbers}
+use Rattle.rows.proofs.Refusing.{Refuses, refuses-then, refuses-behind, bare-write-number}
 use Rattle.records.specs.Answer.{refusal, accepted, answered}
-use Rattle.records.proofs.Coming.{ComesTo, unwritten, either, stops, answered-comes, written-comes, bytes-number}
+use Rattle.records.proofs.Coming.{ComesTo, unwritten, either, stops, answered-comes, written-comes, bare-bytes-number}
 use Rattle.lists.specs.Listing.{obeying, readList, writeList}
 use Rattle.records.specs.declared.Refusal.{Refusal}
 
@@ -28,20 +28,20 @@ obeying-number {A} k ns o why =
     go false a end place = record { some = λ z. omega arith; listed = refl; named = refl }
 
 module _ {A B : Type 0} {good : A → B} {bad : Refusal → B} (valueOf : List ℕ → A) (fault : List ℕ → ℕ) (outside : Bool) (rows : List Row) (bytes : List ℕ) where
-  pub listing-comes : ComesTo good bad (1 ∷ 11 ∷ 6 ∷ readNumbers 232 rows) (readList (λ vals. good (valueOf vals)) bad fault outside rows bytes)
+  pub listing-comes : ComesTo good bad (1 ∷ 11 ∷ 6 ∷ bareNumbers 232 rows) (readList (λ vals. good (valueOf vals)) bad fault outside rows bytes)
   unfolding readList
   listing-comes = go (eqb (length bytes) 29) refl
     where
       o : Outcome (List ℕ)
-      o = andThen (read rows (spread 8 bytes)) (λ vals end. obeying (fault vals) vals end)
+      o = andThen (readBare rows (spread 8 bytes)) (λ vals end. obeying (fault vals) vals end)
 
       go : (t : Bool) → eqb (length bytes) 29 ≡ t
-          → ComesTo good bad (1 ∷ 11 ∷ 6 ∷ readNumbers 232 rows)
+          → ComesTo good bad (1 ∷ 11 ∷ 6 ∷ bareNumbers 232 rows)
           (pick t (pick outside (bad (refusal 11 0)) (answered (λ vals. good (valueOf vals)) bad o)) (bad (refusal 1 0)))
       go true long =
           either outside (stops (refusal 11 0) refl refl refl)
           (answered-comes valueOf o
-          (obeying-number fault (readNumbers 232 rows) (read rows (spread 8 bytes)) (bytes-number rows bytes (rw (eqb-true (length bytes) 29 long)))))
+          (obeying-number fault (bareNumbers 232 rows) (readBare rows (spread 8 bytes)) (bare-bytes-number rows bytes (rw (eqb-true (length bytes) 29 long)))))
       go false short = stops (refusal 1 0) refl refl refl
 
 pub listing-write-comes : (fault : List ℕ → ℕ) (outside : Bool) (rows : List Row) (vals before : List ℕ)
@@ -50,6 +50,6 @@ unfolding writeList
 listing-write-comes fault outside rows vals before =
     either (eqb (length before) 29)
     (either outside (stops (refusal 11 0) refl refl refl)
-    (written-comes before (andThen (write rows 232 vals) (λ bs end. obeying (fault vals) bs end))
-    (obeying-number (λ bs. fault vals) (writeNumbers 232 rows) (write rows 232 vals) (write-number rows 232 vals))))
+    (written-comes before (andThen (writeBare rows 232 vals) (λ bs end. obeying (fault vals) bs end))
+    (obeying-number (λ bs. fault vals) (writeNumbers 232 rows) (writeBare rows 232 vals) (bare-write-number rows 232 vals))))
     (stops (refusal 1 0) refl refl refl)

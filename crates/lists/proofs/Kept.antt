@@ -10,10 +10,11 @@ use lib.Seq.{getD-take}
 use borrow.Author.Tests.{eqb-true, eqb-false, leb-true, le-leb, eq-eqb, ltb-false, not-true, ne-eqb}
 use Rattle.bits.specs.Bits.{spread}
 use Rattle.rows.specs.Row.{pick, among}
-use Rattle.rows.specs.Walk.{Outcome, done, refused, andThen, read}
+use Rattle.rows.specs.Walk.{Outcome, done, refused, andThen, readBare}
 use Rattle.rows.specs.table.BestContracts.{contractList}
+use Rattle.rows.proofs.RoundTrip.{bare-read}
 use Rattle.rows.proofs.Changing.{judged-read, passed}
-use Rattle.rows.proofs.Refusing.{read-refused}
+use Rattle.rows.proofs.Refusing.{bare-refused}
 use Rattle.records.specs.Answer.{refusal, answered}
 use Rattle.records.proofs.Coming.{ComesTo, fine, faulty}
 use Rattle.lists.proofs.Judging.{take-map}
@@ -80,7 +81,7 @@ fault-none full limit before (b ∷ bs) (p ∷ ps) (fills, f) (low, high, new, a
 pub record WasRead (n : ℕ) (bytes : List ℕ) (l : ContractList) : Type 0 where
   pub vals : List ℕ
   pub end : ℕ
-  pub slots : read (contractList n) (spread 8 bytes) ≡ done vals end
+  pub slots : readBare (contractList n) (spread 8 bytes) ≡ done vals end
   pub value : listOf vals ≡ l
   pub limits : outside n ≡ false
   pub long : length bytes ≡ 29
@@ -88,7 +89,7 @@ pub record WasRead (n : ℕ) (bytes : List ℕ) (l : ContractList) : Type 0 wher
 
 pub list-was-read : (n : ℕ) (bytes : List ℕ) (l : ContractList) → listRead n bytes ≡ gotList l → WasRead n bytes l
 unfolding readList
-list-was-read n bytes l = go (eqb (length bytes) 29) refl (outside n) refl (read (contractList n) (spread 8 bytes)) refl
+list-was-read n bytes l = go (eqb (length bytes) 29) refl (outside n) refl (readBare (contractList n) (spread 8 bytes)) refl
   where
     apart : (r : ListRead) → r ≡ gotList l → r .refusal .number ≡ 0
     apart r h = ap (λ (x : ListRead). x .refusal .number) h
@@ -99,13 +100,13 @@ list-was-read n bytes l = go (eqb (length bytes) 29) refl (outside n) refl (read
     kept vals end true e h = (eqb-true _ _ e, ap (λ (x : ListRead). x .list) h)
     kept vals end false e h = absurd (let six : _≡_ {A = ℕ} 6 0 = apart _ h in omega arith)
 
-    go : (b : Bool) → eqb (length bytes) 29 ≡ b → (out : Bool) → outside n ≡ out → (o : Outcome (List ℕ)) → read (contractList n) (spread 8 bytes) ≡ o
+    go : (b : Bool) → eqb (length bytes) 29 ≡ b → (out : Bool) → outside n ≡ out → (o : Outcome (List ℕ)) → readBare (contractList n) (spread 8 bytes) ≡ o
         → pick b (pick out (noList (refusal 11 0)) (answered (λ xs. gotList (listOf xs)) noList (andThen o (λ vals end. obeying (listFault n vals) vals end)))) (noList (refusal 1 0)) ≡ gotList l
         → WasRead n bytes l
     go true w false i (done vals end) r h =
         let (obeys, value) = kept vals end (eqb (listFault n vals) 0) refl h in
         record { vals = vals; end = end; slots = r; value = value; limits = i; long = eqb-true _ _ w; obeys = obeys }
-    go true w false i (refused m p j) r h = absurd (read-refused (contractList n) (spread 8 bytes) r (apart _ h))
+    go true w false i (refused m p j) r h = absurd (bare-refused (contractList n) (spread 8 bytes) r (apart _ h))
     go true w true i o r h = absurd (let eleven : _≡_ {A = ℕ} 11 0 = apart _ h in omega arith)
     go false w out i o r h = absurd (let one : _≡_ {A = ℕ} 1 0 = apart _ h in omega arith)
 
@@ -118,10 +119,10 @@ list-got n bytes = go (list-comes n bytes)
     go (faulty r why) z = absurd (why .some z)
 
 -- Its count is at most n.
-pub count-most : (n : ℕ) (bs : List Bool) {vals : List ℕ} {end : ℕ} → read (contractList n) bs ≡ done vals end → getD vals 0 0 ≤ n
+pub count-most : (n : ℕ) (bs : List Bool) {vals : List ℕ} {end : ℕ} → readBare (contractList n) bs ≡ done vals end → getD vals 0 0 ≤ n
 unfolding contractList
 count-most n bs {vals} h =
-    let first = passed (pick (ltb n (getD (take 1 vals) 0 0)) 4 0) _ 0 0 (judged-read (contractList n) bs h) .0 in
+    let first = passed (pick (ltb n (getD (take 1 vals) 0 0)) 4 0) _ 0 0 (judged-read (contractList n) bs (bare-read (contractList n) bs h)) .0 in
     rw (getD-take 1 vals 0 0 (omega arith)) at (most (ltb n (getD (take 1 vals) 0 0)) refl first)
   where
     most : (t : Bool) → ltb n (getD (take 1 vals) 0 0) ≡ t → _≡_ {A = ℕ} (pick t 4 0) 0 → getD (take 1 vals) 0 0 ≤ n

@@ -27,7 +27,7 @@ use Rattle.rows.proofs.Stepping.{count-twice}
 use Rattle.rows.proofs.Tables.{list-rows}
 use Rattle.records.specs.inner.Met.{met}
 use Rattle.records.proofs.Inverse.{named-all}
-use Rattle.records.proofs.Answering.{eight-words}
+use Rattle.records.proofs.Answering.{all-words}
 use Rattle.lists.specs.List.{entryNumbers, entryOf, numbersOf, listOf, outside, listFault, gotList, noList, listRead}
 use Rattle.lists.specs.inner.Steps.{obeyed, EntryTook, RestTook, EntryGave}
 use Rattle.lists.specs.inner.Judging.{Judges}
@@ -202,7 +202,7 @@ pub sofar-start : (bytes : List ℕ) (n : ℕ) (words : List ℕ) (j : Judged) (
 sofar-start bytes n words j head whole inside cuts took clear judges =
     let long : length (spread 8 bytes) ≡ 232 = rw (length-spread 8 bytes, whole) in
     let most : head .number ≤ n =
-    took-most words 232 start head 4 n (spread 8 bytes) long (rw (← eight-words bytes words cuts) cuts) refl (omega arith) clear took in
+    took-most words 232 start head 4 n (spread 8 bytes) long (all-words bytes words cuts) refl (omega arith) clear took in
     let limit : n ≤ 8 = limit-few n inside in
     record {
       whole = whole;

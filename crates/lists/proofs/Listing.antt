@@ -8,7 +8,7 @@ use lib.ListN.{length, getD, take, drop, length-append, length-map}
 use lib.Seq.{getD-at, drop-drop, drop-append-seam, take-append-seam}
 use borrow.Author.Tests.{eq-eqb, ne-eqb, eqb-true}
 use Rattle.bits.specs.Bits.{cut, spread, zeros}
-use Rattle.bits.proofs.Cutting.{length-spread}
+use Rattle.bits.proofs.Cutting.{length-spread, cut-pad}
 use Rattle.rows.specs.Row.{Row, pick, above, bit}
 use Rattle.rows.specs.Walk.{Outcome, done, refused, andThen, frame, laidOn, slots}
 use Rattle.rows.specs.inner.Step.{Took, Gave, Ended, Packed}
@@ -16,10 +16,10 @@ use Rattle.rows.specs.inner.Line.{start, Takes, _▸_, Taken, Puts, _◂_, tell
 use Rattle.rows.specs.declared.Cursor.{Cursor}
 use Rattle.rows.specs.declared.Rule.{Rule}
 use Rattle.rows.specs.declared.When.the-variants.{Bit, Above}
-use Rattle.rows.proofs.Running.{takes-read, puts-write}
+use Rattle.rows.proofs.Running.{takes-bare, puts-walk, puts-bare}
 use Rattle.records.specs.Answer.{refusal, denied, written, answered}
 use Rattle.records.specs.inner.Met.{met}
-use Rattle.records.proofs.Answering.{eight-words, packed-answer}
+use Rattle.records.proofs.Answering.{all-words, packed-answer}
 use Rattle.lists.specs.Listing.{obeying, readList, writeList}
 use Rattle.lists.specs.inner.Steps.{obeyed}
 use Rattle.records.specs.declared.Refusal.{Refusal}
@@ -110,7 +110,7 @@ module _ {A : Type 0} (good : List ℕ → A) (bad : Refusal → A) (fault : Lis
         let long : length (spread 8 bytes) ≡ 232 = rw (length-spread 8 bytes, whole) in
         rw (eq-eqb _ _ whole, inside, ruled)
         (ap (λ (o : Outcome (List ℕ)). answered good bad (andThen o (λ vals end. obeying (fault vals) vals end)))
-        (takes-read words 232 (spread 8 bytes) long (rw (← eight-words bytes words cuts) cuts) rows all d e few (taken .takes) ended)
+        (takes-bare words 232 (spread 8 bytes) long (all-words bytes words cuts) rows all d e few (taken .takes) ended)
         ∙ ap (answered good bad) (obeys-tells fault e all))
 
     pub list-read : f .why ≡ 0 → good all ≡ readList good bad fault outside rows bytes
@@ -145,11 +145,14 @@ module _ (fault : List ℕ → ℕ) (outside : Bool) (rows : List Row) (vals bef
     says-written =
         rw (eq-eqb _ _ whole, inside, ruled)
         (ap (λ (o : Outcome (List Bool)). written before (andThen o (λ bs end. obeying (fault vals) bs end)))
-        (puts-write 232 rows vals xs all ys d few sized empty puts .0)
+        (puts-bare 232 rows vals xs ys d (puts-walk 232 rows vals xs all ys d few sized empty puts))
         ∙ ap (written before) (obeys-tells (λ bs. fault vals) d (bits ++ zeros (232 - d .at))))
 
     pub list-written : record { answer = met f; bytes = after } ≡ writeList fault outside rows vals before
     unfolding bits
     list-written =
-        let drawn = puts-write 232 rows vals xs all ys d few sized empty puts .1 in
-        sym (says-written ∙ packed-answer xs ys before after f bits (232 - d .at) packed (λ ok. drawn (obeyed-clear d (fault vals) (rw ruled at ok))))
+        let w = puts-walk 232 rows vals xs all ys d few sized empty puts in
+        sym
+        (says-written
+        ∙ packed-answer xs ys before after f (bits ++ zeros (232 - d .at)) packed
+        (λ ok. w .drawn (obeyed-clear d (fault vals) (rw ruled at ok)) ∙ sym (cut-pad 32 32 (length xs) (232 - d .at) bits)))

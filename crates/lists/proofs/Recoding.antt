@@ -11,13 +11,13 @@ use borrow.Author.Tests.{eq-eqb, ne-eqb}
 use Rattle.bits.specs.Bits.{cut, spread}
 use Rattle.bits.proofs.Cutting.{length-spread}
 use Rattle.rows.specs.Row.{Row, pick}
-use Rattle.rows.specs.Walk.{done, read, write, there, slots}
+use Rattle.rows.specs.Walk.{done, readBare, writeBare, there, slots}
 use Rattle.rows.specs.Raise.{named}
 use Rattle.rows.specs.Change.{placeOf, withBox, widthOn, brokenBy}
 use Rattle.rows.specs.declared.When.the-variants.{Bit}
 use Rattle.rows.specs.table.BestContracts.{contractList}
-use Rattle.rows.proofs.RoundTrip.{read-slots, write-length}
-use Rattle.rows.proofs.Changing.{refers, change-law}
+use Rattle.rows.proofs.RoundTrip.{bare-slots, bare-write-length}
+use Rattle.rows.proofs.Changing.{refers, bare-change}
 use Rattle.records.specs.Answer.{accepted, from}
 use Rattle.records.proofs.Inverse.{from-all}
 use Rattle.lists.specs.List.{numbersOf, listOf, outside, gotList, listFault, listRead, listWritten}
@@ -52,18 +52,18 @@ slots-list n = refl
 
 -- A list whose table is written and that keeps the rule is written.
 list-accepted : (fault : List ℕ → ℕ) (outside : Bool) (rows : List Row) (vals before : List ℕ) (bs : List Bool) (end : ℕ) → length before ≡ 29
-    → outside ≡ false → write rows 232 vals ≡ done bs end → fault vals ≡ 0
+    → outside ≡ false → writeBare rows 232 vals ≡ done bs end → fault vals ≡ 0
     → writeList fault outside rows vals before ≡ accepted (cut 8 8 (length before) bs)
 unfolding writeList
 list-accepted fault outside rows vals before bs end long inside w obeys = rw (eq-eqb _ _ long, inside, w, eq-eqb _ _ obeys)
 
 module _ (n code : ℕ) (before : List ℕ) (vals : List ℕ) (end : ℕ) (k : ℕ)
-    (reads : read (contractList n) (spread 8 before) ≡ done vals end)
+    (reads : readBare (contractList n) (spread 8 before) ≡ done vals end)
     (limits : outside n ≡ false) (long : length before ≡ 29) (obeys : listFault n vals ≡ 0)
     (room : k < 8) (counted : k < getD vals 0 0) (fits : code ≤ 15) (defined : code ≡ 13 → ⊥) where
   all : from 0 49 vals ≡ vals
   unfolding contractList
-  all = from-all 49 vals (read-slots (contractList n) (spread 8 before) reads)
+  all = from-all 49 vals (bare-slots (contractList n) (spread 8 before) reads)
 
   facts : Slot n code vals k
   facts = slot n code vals k room
@@ -88,10 +88,10 @@ module _ (n code : ℕ) (before : List ℕ) (vals : List ℕ) (end : ℕ) (k : �
       let kept : listFault n (set vals (5 + 6 * k) code) ≡ 0 = rw all at (facts .fault) ∙ obeys in
       let size : length (spread 8 before) ≡ 232 = length-spread 8 before ∙ rw long in
       let inside : 5 + 6 * k < slots (contractList n) = rw (slots-list n) (omega arith) in
-      let sized : length (set vals (5 + 6 * k) code) ≡ slots (contractList n) = length-set vals (5 + 6 * k) code ∙ read-slots (contractList n) (spread 8 before) reads in
-      let w = rw (size, four) at (change-law (contractList n) (spread 8 before) (5 + 6 * k) code reads inside (facts .free) (rw four (omega arith)) allowed) in (
+      let sized : length (set vals (5 + 6 * k) code) ≡ slots (contractList n) = length-set vals (5 + 6 * k) code ∙ bare-slots (contractList n) (spread 8 before) reads in
+      let w = rw (size, four) at (bare-change (contractList n) (spread 8 before) (5 + 6 * k) code reads inside (facts .free) (rw four (omega arith)) allowed) in (
         rw numbers (list-accepted (listFault n) (outside n) (contractList n) (set vals (5 + 6 * k) code) before bits end long limits w kept),
-        write-length (contractList n) 232 (set vals (5 + 6 * k) code) sized w ∙ rw long,
+        bare-write-length (contractList n) 232 (set vals (5 + 6 * k) code) sized w ∙ rw long,
       )
 
 -- A list that was read, with one priority changed, is written as the record with just those four bits changed.

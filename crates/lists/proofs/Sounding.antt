@@ -9,12 +9,12 @@ use borrow.Author.Tests.{lt-ltb, le-ltb, ltb-true, ltb-false, leb-false, eq-eqb,
 use lib.ListN.{length, getD, take, drop, replicate, drop-of-length-le, length-map, List·getD-map, List·getD-eq-default}
 use lib.Seq.{drop-cons, getD-take}
 use Rattle.rows.specs.Row.{pick, broken}
-use Rattle.rows.specs.Walk.{Outcome, done, refused, andThen, write, total, there, exceeds, firstPast, rankPast}
+use Rattle.rows.specs.Walk.{Outcome, done, refused, andThen, writeBare, total, there, exceeds, firstPast, rankPast}
 use Rattle.rows.specs.declared.When.the-variants.{Bit, Above}
 use Rattle.rows.specs.declared.Rule.the-variants.{Tariff}
 use Rattle.rows.specs.table.BestContracts.{contractList}
 use Rattle.rows.proofs.Sound.{Sound, fieldsOn, verdict, read-sound, sound-written, total-behind, past-behind}
-use Rattle.rows.proofs.RoundTrip.{read-slots}
+use Rattle.rows.proofs.RoundTrip.{bare-read, bare-slots}
 use Rattle.bits.specs.Bits.{odd, spread}
 use Rattle.records.proofs.Inverse.{from-all}
 use Rattle.lists.specs.List.{entryOf, entryAt, numbersOf, gotList, listFault, listRead, listWritten}
@@ -123,9 +123,9 @@ pub read-good : (n : ℕ) (bytes : List ℕ) (l : ContractList) → listRead n b
 read-good n bytes l h =
     let w = list-was-read n bytes l h in
     let kept = list-kept n bytes l h in
-    let all : numbersOf l ≡ w .vals = sym (ap numbersOf (w .value)) ∙ from-all 49 (w .vals) (read-slots (contractList n) (spread 8 bytes) (w .slots) ∙ slots-list n) in
+    let all : numbersOf l ≡ w .vals = sym (ap numbersOf (w .value)) ∙ from-all 49 (w .vals) (bare-slots (contractList n) (spread 8 bytes) (w .slots) ∙ slots-list n) in
     let sound : Sound (contractList n) [] (numbersOf l) =
-    subst (λ (vals : List ℕ). Sound (contractList n) [] vals) (sym all) (read-sound (contractList n) (spread 8 bytes) (w .slots)) in
+    subst (λ (vals : List ℕ). Sound (contractList n) [] vals) (sym all) (read-sound (contractList n) (spread 8 bytes) (bare-read (contractList n) (spread 8 bytes) (w .slots))) in
     at-good (counted l) (entryOf [] 0)
     (λ k h.
     let long = length-counted l (kept .eight) in
@@ -235,7 +235,7 @@ module _ (n : ℕ) (es : List Entry) (good : AllGood es) (apart : Apart n [] (ma
   written-or-two before long low =
       let sound = sound-written refusalAt (contractList n) 232 (numbersOf (listing es)) is-sound in
       rw (eq-eqb _ _ long, le-ltb _ _ low, le-ltb _ _ most, keeps-rule)
-      (go (write (contractList n) 232 (numbersOf (listing es))) ∙ sound ∙ same-past refusalAt _ (listFields es) (table-fields n es good (omega arith)))
+      (go (writeBare (contractList n) 232 (numbersOf (listing es))) ∙ sound ∙ same-past refusalAt _ (listFields es) (table-fields n es good (omega arith)))
     where
       go : (o : Outcome (List Bool)) → written before (andThen o (λ bs end. obeying 0 bs end)) .answer ≡ verdict refusalAt o
       go (done bs end) = refl

@@ -1,5 +1,6 @@
 -- What the contract list and the special event list share: a count and entries of so many slots each, the bitmap first and the
--- pointer last; read and written as any record, and then held to their rule. Document 01, "Refusal numbers", the order.
+-- pointer last; read and written as any record, but without a margin, and then held to their rule. Document 01, "Refusal numbers",
+-- the order.
 use Prim.Native.Nat.{ℕ, zero, suc, _+_}
 use mathlib.Core.List.{List, [], _∷_}
 use mathlib.Core.Bool.{Bool}
@@ -7,7 +8,7 @@ use lib.Dec.{eqb}
 use lib.ListN.{length, getD, take}
 use Rattle.bits.specs.Bits.{spread}
 use Rattle.rows.specs.Row.{Row, pick}
-use Rattle.rows.specs.Walk.{Outcome, done, refused, andThen, read, write}
+use Rattle.rows.specs.Walk.{Outcome, done, refused, andThen, readBare, writeBare}
 use Rattle.records.specs.Answer.{Written, refusal, denied, written, answered}
 use Rattle.lists.specs.Rules.{firstAtFault}
 use Rattle.records.specs.declared.Refusal.{Refusal}
@@ -31,12 +32,12 @@ obeying k a end = pick (eqb k 0) (done a end) (refused 6 k 0)
 unfoldable pub readList : {A : Type 0} → (List ℕ → A) → (Refusal → A) → (List ℕ → ℕ) → Bool → List Row → List ℕ → A
 readList good bad fault outside rows bytes =
     pick (eqb (length bytes) 29)
-    (pick outside (bad (refusal 11 0)) (answered good bad (andThen (read rows (spread 8 bytes)) (λ vals end. obeying (fault vals) vals end))))
+    (pick outside (bad (refusal 11 0)) (answered good bad (andThen (readBare rows (spread 8 bytes)) (λ vals end. obeying (fault vals) vals end))))
     (bad (refusal 1 0))
 
 -- Writing a list to a record.
 unfoldable pub writeList : (List ℕ → ℕ) → Bool → List Row → List ℕ → List ℕ → Written
 writeList fault outside rows vals before =
     pick (eqb (length before) 29)
-    (pick outside (denied (refusal 11 0) before) (written before (andThen (write rows 232 vals) (λ bs end. obeying (fault vals) bs end))))
+    (pick outside (denied (refusal 11 0) before) (written before (andThen (writeBare rows 232 vals) (λ bs end. obeying (fault vals) bs end))))
     (denied (refusal 1 0) before)

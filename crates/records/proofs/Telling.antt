@@ -1,5 +1,6 @@
 -- What an answer tells is the whole of it: answers that tell the same are equal.
 use mathlib.Core.Path.{_≡_, refl, sym, ap, _∙_}
+use lib.ListN.{drop}
 use Rattle.rows.specs.Row.{pick}
 use Rattle.records.specs.Answer.{Told, refusalAt}
 use Rattle.records.specs.Environment.{environmentOf, environmentTold}
@@ -14,7 +15,7 @@ pub told-one : {A : Type 0} (tell : A → Told) (back : Told → A) → ((a : A)
 told-one tell back returned a b same = sym (returned a) ∙ ap back same ∙ returned b
 
 abbrev environment-back : Told → EnvironmentRead
-environment-back t = pick (t .holds) (environment.Read (environmentOf (t .values))) (environment.Refused (refusalAt (t .number) (t .place) (t .field)))
+environment-back t = pick (t .holds) (environment.Read (environmentOf (t .values) (drop 10 (t .values)))) (environment.Refused (refusalAt (t .number) (t .place) (t .field)))
 
 environment-returned : (r : EnvironmentRead) → environment-back (environmentTold r) ≡ r
 environment-returned (environment.Read e) = refl
@@ -24,7 +25,7 @@ pub environment-one : (r s : EnvironmentRead) → environmentTold r ≡ environm
 environment-one = told-one environmentTold environment-back environment-returned
 
 abbrev event-back : Told → EventRead
-event-back t = pick (t .holds) (event.Read (eventOf (t .values))) (event.Refused (refusalAt (t .number) (t .place) (t .field)))
+event-back t = pick (t .holds) (event.Read (eventOf (t .values) (drop 36 (t .values)))) (event.Refused (refusalAt (t .number) (t .place) (t .field)))
 
 event-returned : (r : EventRead) → event-back (eventTold r) ≡ r
 event-returned (event.Read e) = refl

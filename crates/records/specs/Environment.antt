@@ -1,7 +1,8 @@
--- Environment as a value: named numbers, in the order of the table's slots.
+-- Environment as a value: named numbers, in the order of the table's slots, and its margin.
 use Prim.Native.Nat.{ℕ}
-use mathlib.Core.List.{List, [], _∷_}
+use mathlib.Core.List.{List, [], _∷_, _++_}
 use lib.ListN.{getD}
+use Rattle.rows.specs.Margin.{wordsOf, marginOf}
 use Rattle.rows.specs.table.Environment.{environment}
 use Rattle.records.specs.Answer.{Written, Told, toldValue, toldRefusal, readRecord, writeRecord}
 use Rattle.records.specs.declared.environment.Environment.{Environment}
@@ -22,8 +23,8 @@ numbersOf e =
     ∷ e .«card_status»
     ∷ []
 
-abbrev pub environmentOf : List ℕ → Environment
-environmentOf vals =
+abbrev pub environmentOf : List ℕ → List ℕ → Environment
+environmentOf vals margin =
     record {
       version = getD vals 0 0;
       bitmap = getD vals 1 0;
@@ -35,15 +36,16 @@ environmentOf vals =
       «select_list» = getD vals 7 0;
       «data_bitmap» = getD vals 8 0;
       «card_status» = getD vals 9 0;
+      margin = marginOf margin;
     }
 
 -- The cases of the answer, each by its number, its place, its field and its values.
 abbrev pub environmentTold : EnvironmentRead → Told
-environmentTold (Read e) = toldValue (numbersOf e)
-environmentTold (Refused r) = toldRefusal 10 r
+environmentTold (Read e) = toldValue (numbersOf e ++ wordsOf (e .margin))
+environmentTold (Refused r) = toldRefusal 14 r
 
 abbrev pub environmentRead : List ℕ → EnvironmentRead
-environmentRead bytes = readRecord (λ vals. Read (environmentOf vals)) Refused environment bytes
+environmentRead bytes = readRecord (λ vals margin. Read (environmentOf vals margin)) Refused environment bytes
 
 abbrev pub environmentWritten : List ℕ → Environment → Written
-environmentWritten before e = writeRecord environment (numbersOf e) before
+environmentWritten before e = writeRecord environment (numbersOf e) (wordsOf (e .margin)) before

@@ -1,7 +1,9 @@
--- Event as a value: named numbers, in the order of the table's slots. Slot 20 is element [17], which never fits and has no name.
+-- Event as a value: named numbers, in the order of the table's slots, and its margin. Slot 20 is element [17], which never fits and
+-- has no name.
 use Prim.Native.Nat.{ℕ}
-use mathlib.Core.List.{List, [], _∷_}
+use mathlib.Core.List.{List, [], _∷_, _++_}
 use lib.ListN.{getD}
+use Rattle.rows.specs.Margin.{wordsOf, marginOf}
 use Rattle.rows.specs.table.Event.{event}
 use Rattle.records.specs.Answer.{Written, Told, toldValue, toldRefusal, readRecord, writeRecord}
 use Rattle.records.specs.declared.event.Event.{Event}
@@ -48,8 +50,8 @@ numbersOf e =
     ∷ e .direction
     ∷ []
 
-abbrev pub eventOf : List ℕ → Event
-eventOf vals =
+abbrev pub eventOf : List ℕ → List ℕ → Event
+eventOf vals margin =
     record {
       date = getD vals 0 0;
       minute = getD vals 1 0;
@@ -86,15 +88,16 @@ eventOf vals =
       simulation = getD vals 33 0;
       trip = getD vals 34 0;
       direction = getD vals 35 0;
+      margin = marginOf margin;
     }
 
 -- The cases of the answer, each by its number, its place, its field and its values.
 abbrev pub eventTold : EventRead → Told
-eventTold (Read e) = toldValue (numbersOf e)
-eventTold (Refused r) = toldRefusal 36 r
+eventTold (Read e) = toldValue (numbersOf e ++ wordsOf (e .margin))
+eventTold (Refused r) = toldRefusal 40 r
 
 abbrev pub eventRead : List ℕ → EventRead
-eventRead bytes = readRecord (λ vals. Read (eventOf vals)) Refused event bytes
+eventRead bytes = readRecord (λ vals margin. Read (eventOf vals margin)) Refused event bytes
 
 abbrev pub eventWritten : List ℕ → Event → Written
-eventWritten before e = writeRecord event (numbersOf e) before
+eventWritten before e = writeRecord event (numbersOf e) (wordsOf (e .margin)) before

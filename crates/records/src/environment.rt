@@ -2,15 +2,16 @@
 ghost use mathlib.Core.Path.{_≡_};
 ghost use mathlib.Core.List.{[]};
 ghost use lib.ListN.{length};
-ghost use Rattle.rows.specs.inner.Line.{start, Taken, Puts};
+ghost use Rattle.rows.specs.inner.Line.{start, Taken, Given};
 ghost use Rattle.rows.specs.table.Environment.{environment};
 ghost use Rattle.records.specs.Environment.{environmentTold, environmentRead, environmentWritten, numbersOf};
-ghost use Rattle.records.specs.Answer.{Written};
 use crate::BITS;
 use crate::BYTES;
 use crate::Refusal;
 use rows::Cursor;
 use rows::When;
+use rows::margin;
+use rows::margin::Margin;
 use rows::put;
 use rows::take;
 
@@ -25,6 +26,7 @@ pub struct Environment {
     pub select_list: u32,
     pub data_bitmap: u32,
     pub card_status: u32,
+    pub margin: Margin,
 }
 
 pub enum EnvironmentRead {
@@ -49,11 +51,11 @@ pub fn read(bytes: &[u8]) -> EnvironmentRead
     bits::words(bytes, &mut words);
     let fields = take_fields(&words);
     let last = fields.last;
-    let end = take::end(&words, BITS, last);
-    if end.why != 0 {
-        return EnvironmentRead::Refused(Refusal::met(end));
+    if last.why != 0 {
+        return EnvironmentRead::Refused(Refusal::met(last));
     }
-    let value = fields.value;
+    let mut value = fields.value;
+    value.margin = margin::take(&words, last.at);
     EnvironmentRead::Read(value)
 }
 
@@ -83,6 +85,7 @@ fn take_fields(words: &[u64]) -> Fields
             select_list: select_list.number,
             data_bitmap: data.number,
             card_status: card_status.number,
+            margin: Margin::NONE,
         },
         last: card_status,
     }
@@ -97,13 +100,17 @@ pub fn write(bytes: &mut [u8], e: Environment) -> Refusal
     }
     let mut draft = [0u64; 9];
     let last = put_fields(&mut draft, e);
-    put::end(&draft, last, bytes);
-    Refusal::met(last)
+    if last.why != 0 {
+        return Refusal::met(last);
+    }
+    let end = margin::put(&mut draft, BITS, last, e.margin);
+    put::end(&draft, end, bytes);
+    Refusal::met(end)
 }
 
 fn put_fields(draft: &mut [u64], e: Environment) -> Cursor
     requires { ⌜ length (now draft) ≡ 9 ⌝ }
-    ensures { λ d. ⌜ Puts 232 (numbersOf e) environment [] (now (draft .entry)) start (numbersOf e) (now (draft .exit)) d ⌝ }
+    ensures { λ d. ⌜ Given 232 (numbersOf e) environment [] (now (draft .entry)) start (numbersOf e) (now (draft .exit)) d ⌝ }
 {
     let c = put::number(draft, BITS, Cursor::START, When::Always, 6, e.version);
     let c = put::number(draft, BITS, c, When::Always, 7, e.bitmap);

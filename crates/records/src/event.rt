@@ -3,16 +3,17 @@ ghost use mathlib.Core.Path.{_≡_};
 ghost use mathlib.Core.List.{[]};
 ghost use lib.ListN.{length, take, drop};
 ghost use Rattle.rows.specs.inner.Step.{Ready, Drafted};
-ghost use Rattle.rows.specs.inner.Line.{start, Taken, Puts, Given};
+ghost use Rattle.rows.specs.inner.Line.{start, Taken, Given};
 ghost use Rattle.rows.specs.table.Event.{event};
 ghost use Rattle.records.specs.Event.{eventTold, eventRead, eventWritten, numbersOf};
-ghost use Rattle.records.specs.Answer.{Written};
 use crate::BITS;
 use crate::BYTES;
 use crate::LAST_MINUTE;
 use crate::Refusal;
 use rows::Cursor;
 use rows::When;
+use rows::margin;
+use rows::margin::Margin;
 use rows::put;
 use rows::take;
 
@@ -53,13 +54,14 @@ pub struct Event {
     pub simulation: u32,
     pub trip: u32,
     pub direction: u32,
+    pub margin: Margin,
 }
 
 impl Event {
-    // All fields absent, on day 0 at minute 0.
     // The highest contract pointer, a simple right.
     pub const LAST_POINTER: u32 = 19;
 
+    // All fields absent, on day 0 at minute 0, and nothing in the margin.
     pub const ZERO: Event = Event {
         date: 0,
         minute: 0,
@@ -96,6 +98,7 @@ impl Event {
         simulation: 0,
         trip: 0,
         direction: 0,
+        margin: Margin::NONE,
     };
 }
 
@@ -121,11 +124,11 @@ pub fn read(bytes: &[u8]) -> EventRead
     bits::words(bytes, &mut words);
     let fields = take_fields(&words);
     let last = fields.last;
-    let end = take::end(&words, BITS, last);
-    if end.why != 0 {
-        return EventRead::Refused(Refusal::met(end));
+    if last.why != 0 {
+        return EventRead::Refused(Refusal::met(last));
     }
-    let value = fields.value;
+    let mut value = fields.value;
+    value.margin = margin::take(&words, last.at);
     EventRead::Read(value)
 }
 
@@ -271,13 +274,17 @@ pub fn write(bytes: &mut [u8], e: Event) -> Refusal
     }
     let mut draft = [0u64; 9];
     let last = put_fields(&mut draft, e);
-    put::end(&draft, last, bytes);
-    Refusal::met(last)
+    if last.why != 0 {
+        return Refusal::met(last);
+    }
+    let end = margin::put(&mut draft, BITS, last, e.margin);
+    put::end(&draft, end, bytes);
+    Refusal::met(end)
 }
 
 fn put_fields(draft: &mut [u64], e: Event) -> Cursor
     requires { ⌜ length (now draft) ≡ 9 ⌝ }
-    ensures { λ d. ⌜ Puts 232 (numbersOf e) event [] (now (draft .entry)) start (numbersOf e) (now (draft .exit)) d ⌝ }
+    ensures { λ d. ⌜ Given 232 (numbersOf e) event [] (now (draft .entry)) start (numbersOf e) (now (draft .exit)) d ⌝ }
 {
     let occasion = put_occasion(draft, e);
     let journey = put_journey(draft, occasion, e);

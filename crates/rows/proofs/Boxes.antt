@@ -9,7 +9,7 @@ use lib.Pow.{pow-mono}
 use borrow.Author.Tests.{lt-ltb, ltb-true}
 use lib.ListN.{length, getD, take, drop, length-map, length-append, length-take, length-drop, length-replicate}
 use lib.Seq.{length-take-le, take-add, drop-drop, take-at, drop-at}
-use Rattle.bits.specs.Bits.{number, bitsOf, zeros, join, leading}
+use Rattle.bits.specs.Bits.{number, bitsOf, zeros, join}
 use Rattle.bits.proofs.Spelling.{number-lt, number-inj, length-bits-of, number-bits-of, bits-of-number}
 use Rattle.rows.specs.Row.{pick, holds}
 use Rattle.rows.specs.Walk.{total, there, exceeds, numbers, laidOn}
@@ -107,17 +107,6 @@ numbers-laid (w ∷ ws) (v ∷ vs) rest e fits = go (ltb v (2 ^ w)) refl fits (�
         rw (laid-behind (bitsOf w v) ws vs, append-assoc, take-at, drop-at, number-bits-of w v (ltb-true _ _ low), back p)
     go false low p back = absurd (true≢false p)
 
--- All of some zeros lead.
-pub leading-zeros : (n : ℕ) → leading (zeros n) ≡ n
-leading-zeros zero = refl
-leading-zeros (suc n) = ap suc (leading-zeros n)
-
--- Bits of which all lead are zeros.
-pub all-leading : (bs : List Bool) → leading bs ≡ length bs → bs ≡ zeros (length bs)
-all-leading [] e = refl
-all-leading (true ∷ bs) e = absurd (omega arith)
-all-leading (false ∷ bs) e = ap (λ (l : List Bool). false ∷ l) (all-leading bs (omega arith))
-
 -- Joined bits are as long as the first.
 pub length-join : (a b : List Bool) → length (join a b) ≡ length a
 length-join [] b = refl
@@ -140,6 +129,14 @@ drop-join (suc n) [] b e = refl
 drop-join (suc n) (x ∷ a) [] e = absurd (omega arith)
 drop-join (suc n) (true ∷ a) (y ∷ b) e = drop-join n a b (omega arith)
 drop-join (suc n) (false ∷ a) (y ∷ b) e = drop-join n a b (omega arith)
+
+-- Bits behind bits, joined to as many behind as many.
+pub join-append : (xs xt ys yt : List Bool) → length xs ≡ length ys → join (xs ++ xt) (ys ++ yt) ≡ join xs ys ++ join xt yt
+join-append [] xt [] yt e = refl
+join-append [] xt (y ∷ ys) yt e = absurd (omega arith)
+join-append (x ∷ xs) xt [] yt e = absurd (omega arith)
+join-append (true ∷ xs) xt (y ∷ ys) yt e = ap (λ (l : List Bool). true ∷ l) (join-append xs xt ys yt (omega arith))
+join-append (false ∷ xs) xt (y ∷ ys) yt e = ap (λ (l : List Bool). y ∷ l) (join-append xs xt ys yt (omega arith))
 
 -- Zeros raise nothing.
 pub join-zeros : (a : List Bool) (n : ℕ) → join a (zeros n) ≡ a

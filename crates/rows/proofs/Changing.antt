@@ -1,6 +1,6 @@
 -- The change of one number: where bits read, the bits with that one box replaced are the writing of the numbers so changed.
 use Prim.Native.Nat.{ℕ, zero, suc, _+_, _-_, _^_, _≤_, _<_}
-use mathlib.Core.List.{List, [], _∷_, _++_, append-assoc}
+use mathlib.Core.List.{List, [], _∷_, _++_, append-nil, append-assoc}
 use mathlib.Core.Bool.{Bool, true, false, _||_, true≢false}
 use mathlib.Core.Path.{_≡_, refl, sym, ap, _∙_}
 use native.Mathlib.Omega.{arith}
@@ -8,15 +8,15 @@ use lib.Dec.{eqb, ltb}
 use borrow.Author.Tests.{eqb-true, eqb-false, ltb-true, ltb-false, eq-eqb}
 use lib.ListN.{length, getD, set, take, drop, replicate, length-append, length-drop, take-append-drop, List·getD-append}
 use lib.Seq.{take-at, drop-at, take-append-le, drop-append-add, take-take, drop-drop, take-add, take-set-lt, take-set-le, drop-set-lt, drop-set-add, length-take-le, getD-set-other, getD-append-add}
-use Rattle.bits.specs.Bits.{number, bitsOf, zeros}
+use Rattle.bits.specs.Bits.{number, bitsOf, cleared}
 use Rattle.bits.proofs.Spelling.{length-bits-of, number-bits-of}
 use Rattle.rows.specs.Row.{Row, pick, broken}
-use Rattle.rows.specs.Walk.{Outcome, done, refused, total, boxesOf, walk, numbers, boxesAt, read, frameOn, frame, write, slots}
+use Rattle.rows.specs.Walk.{Outcome, done, refused, total, boxesOf, walk, numbers, boxesAt, Content, readBare, read, frameOn, frame, write, writeBare, slots}
 use Rattle.rows.specs.Raise.{named, AllZero, judgeOn}
 use Rattle.rows.specs.Change.{placeOf, withBox, widthOn, brokenBy}
 use Rattle.rows.proofs.Boxes.{total-append}
 use Rattle.rows.proofs.Walked.{never, length-boxes, length-frame, Held, walk-judged}
-use Rattle.rows.proofs.RoundTrip.{ends-well, reading, read-write}
+use Rattle.rows.proofs.RoundTrip.{reading, read-write, bare-read}
 use Rattle.rows.proofs.Raising.{frame-same}
 
 -- A box in the middle of the bits lies behind those in front of it.
@@ -140,12 +140,12 @@ judged-with (r ∷ rs) i ws all xs vals at s v {end} ok h =
         rw (take-set-le k vals s v h, behind, eq-eqb _ _ (row .0)) (rest ok (row .1))
 
 -- The numbers of a reading are judged well.
-pub judged-read : (rows : List Row) (bs : List Bool) {vals : List ℕ} {end : ℕ} → read rows bs ≡ done vals end
-    → judgeOn rows 0 (frameOn rows [] vals) vals vals 0 ≡ done vals end
+pub judged-read : (rows : List Row) (bs : List Bool) {c : Content} {end : ℕ} → read rows bs ≡ done c end
+    → judgeOn rows 0 (frameOn rows [] (c .numbers)) (c .numbers) (c .numbers) 0 ≡ done (c .numbers) end
 unfolding frame
-judged-read rows bs {vals} h =
+judged-read rows bs {c} h =
     let r = reading rows bs h in
-    let inside : 0 + total (frameOn rows [] vals) ≤ length bs = omega arith in
+    let inside : 0 + total (frameOn rows [] (c .numbers)) ≤ length bs = omega arith in
     sym (walk-judged (length bs) bs rows 0 [] 0 (r .held) inside) ∙ r .steps
 
 -- Whether a slot is one that conditions refer to.
@@ -185,15 +185,17 @@ with-length : (at w v : ℕ) (bs : List Bool) → at + w ≤ length bs → lengt
 with-length at w v bs h = rw (length-append, length-append, length-take-le at bs (omega arith), length-bits-of, length-drop) (omega arith)
 
 -- The law: one number that no condition refers to, changed to another that fits its box and breaks no rule.
-pub change-law : (rows : List Row) (bs : List Bool) (s v : ℕ) {vals : List ℕ} {end : ℕ} → read rows bs ≡ done vals end
+pub change-law : (rows : List Row) (bs : List Bool) (s v : ℕ) {c : Content} {end : ℕ} → read rows bs ≡ done c end
     → s < slots rows
     → refers s (named rows) ≡ false
-    → v < 2 ^ widthOn rows [] vals s
-    → brokenBy rows s v vals ≡ 0
-    → write rows (length bs) (set vals s v) ≡ done (withBox (placeOf rows vals s) (widthOn rows [] vals s) v bs) end
+    → v < 2 ^ widthOn rows [] (c .numbers) s
+    → brokenBy rows s v (c .numbers) ≡ 0
+    → write rows (length bs) (record { numbers = set (c .numbers) s v; margin = c .margin })
+    ≡ done (withBox (placeOf rows (c .numbers) s) (widthOn rows [] (c .numbers) s) v bs) end
 unfolding placeOf frame read
-change-law rows bs s v {vals} {end} h slot free fits ok =
+change-law rows bs s v {c} {end} h slot free fits ok =
     let r = reading rows bs h in
+    let vals : List ℕ = c .numbers in
     let f : List ℕ = frameOn rows [] vals in
     let at : ℕ = total (take s f) in
     let w : ℕ = widthOn rows [] vals s in
@@ -215,6 +217,16 @@ change-law rows bs s v {vals} {end} h slot free fits ok =
     let sound : judgeOn rows 0 f ys ys 0 ≡ done ys end = judged-with rows 0 f vals ys vals 0 s v ok (judged-read rows bs h) in
     let long : length out ≡ length bs = with-length at w v bs (omega arith) in
     let behind : drop end out ≡ drop end bs = with-past at w v bs end (omega arith) (omega arith) in
-    let margin : drop end out ≡ zeros (length out - end) = rw long (behind ∙ r .margin) in
-    let again : read rows out ≡ done ys end = rw (long, steps, sound) (ends-well out ys end (omega arith) margin) in
-    rw long at (read-write rows out again)
+    let margin : cleared end out ≡ c .margin = rw behind (sym (r .margin)) in
+    let again : read rows out ≡ done (record { numbers = ys; margin = c .margin }) end = rw (long, steps, sound, margin) in
+    rw (long, append-nil) at (read-write rows out 0 again)
+
+-- Of a list.
+pub bare-change : (rows : List Row) (bs : List Bool) (s v : ℕ) {vals : List ℕ} {end : ℕ} → readBare rows bs ≡ done vals end
+    → s < slots rows
+    → refers s (named rows) ≡ false
+    → v < 2 ^ widthOn rows [] vals s
+    → brokenBy rows s v vals ≡ 0
+    → writeBare rows (length bs) (set vals s v) ≡ done (withBox (placeOf rows vals s) (widthOn rows [] vals s) v bs) end
+unfolding writeBare
+bare-change rows bs s v h slot free fits ok = change-law rows bs s v (bare-read rows bs h) slot free fits ok

@@ -6,6 +6,7 @@ pub mod Changing
 pub mod Stepping
 pub mod Taking
 pub mod Giving
+pub mod Margins
 pub mod Running
 pub mod Tables
 pub mod Wide

@@ -8,9 +8,9 @@ use mathlib.Core.Logic.{_⊎_, inl, inr}
 use native.Mathlib.Omega.{arith}
 use lib.Dec.{eqb}
 use lib.ListN.{length, take, drop}
-use Rattle.bits.specs.Bits.{zeros, leading}
+use Rattle.bits.specs.Bits.{cleared, leading}
 use Rattle.rows.specs.Row.{Row, pick, broken}
-use Rattle.rows.specs.Walk.{Outcome, done, refused, andThen, total, boxesOf, exceeds, fault, Source, field, walk, boxesAt, slotsOf, ending, read, frame, laidOn, write}
+use Rattle.rows.specs.Walk.{Outcome, done, refused, andThen, total, boxesOf, exceeds, fault, Source, field, walk, boxesAt, slotsOf, Content, holding, blank, read, readBare, frame, laidOn, stray, write}
 
 -- Of rows that begin with rank j, after the numbers seen and at bit start.
 pub record Names (room : ℕ) (from : Source) (rows : List Row) (j : ℕ) (seen : List ℕ) (start n at i : ℕ) : Type 0 where
@@ -70,29 +70,79 @@ module _ (room : ℕ) (from : Source) where
             fails = rw (first, here) (e ∙ h ∙ rw (first, here));
           }
 
--- A writing that is refused names the row at fault,
-pub write-names : (rows : List Row) (room : ℕ) (vals : List ℕ) (n at i : ℕ) → write rows room vals ≡ refused n at i
-    → Names room (slotsOf vals) rows 0 [] 0 n at i
-unfolding write
-write-names rows room vals n at i = go (walk room (slotsOf vals) rows 0 [] 0) refl
+-- A walk that is refused, with what follows it where it is not.
+then-names : {A : Type 0} (rows : List Row) (room : ℕ) (from : Source) (next : List ℕ → ℕ → Outcome A) (n at i : ℕ)
+    → andThen (walk room from rows 0 [] 0) next ≡ refused n at i
+    → ((vals : List ℕ) × (end : ℕ) × (walk room from rows 0 [] 0 ≡ done vals end) × (next vals end ≡ refused n at i))
+    ⊎ Names room from rows 0 [] 0 n at i
+then-names rows room from next n at i = go (walk room from rows 0 [] 0) refl
   where
-    go : (o : Outcome (List ℕ)) → walk room (slotsOf vals) rows 0 [] 0 ≡ o
-        → andThen o (λ all end. done (laidOn [] (frame rows vals) vals ++ zeros (room - end)) end) ≡ refused n at i
-        → Names room (slotsOf vals) rows 0 [] 0 n at i
-    go (done all end) e h = let z : _≡_ {A = ℕ} 0 1 = cc in absurd (omega arith)
-    go (refused m p k) e h = walk-names room (slotsOf vals) rows 0 [] 0 n at i (e ∙ cc)
+    go : (o : Outcome (List ℕ)) → walk room from rows 0 [] 0 ≡ o → andThen o next ≡ refused n at i
+        → ((vals : List ℕ) × (end : ℕ) × (walk room from rows 0 [] 0 ≡ done vals end) × (next vals end ≡ refused n at i))
+        ⊎ Names room from rows 0 [] 0 n at i
+    go (done vals end) e h = inl (vals, end, e, h)
+    go (refused m p k) e h = inr (walk-names room from rows 0 [] 0 n at i (e ∙ cc))
 
--- and so does a reading, unless it is 5, behind the last field.
-pub read-names : (rows : List Row) (bs : List Bool) (n at i : ℕ) → read rows bs ≡ refused n at i
-    → (n ≡ 5) ⊎ Names (length bs) (boxesAt bs) rows 0 [] 0 n at i
-unfolding read ending
-read-names rows bs n at i = go (walk (length bs) (boxesAt bs) rows 0 [] 0) refl
+-- Bits that must be zero are refused at their first one.
+blank-names : {A : Type 0} (k : ℕ) (bs : List Bool) (a : A) (end n at i : ℕ) → blank k bs a end ≡ refused n at i
+    → (n ≡ k) × (at ≡ leading bs) × (i ≡ 0)
+unfolding blank
+blank-names k bs a end n at i = go (eqb (leading bs) (length bs))
   where
-    last : (vals : List ℕ) (end : ℕ) (b : Bool) → pick b (done vals end) (refused 5 (end + leading (drop end bs)) 0) ≡ refused n at i → n ≡ 5
-    last vals end true h = let z : _≡_ {A = ℕ} 0 1 = cc in absurd (omega arith)
-    last vals end false h = cc
+    go : (t : Bool) → pick t (done a end) (refused k (leading bs) 0) ≡ refused n at i → (n ≡ k) × (at ≡ leading bs) × (i ≡ 0)
+    go true h = let z : _≡_ {A = ℕ} 0 1 = cc in absurd (omega arith)
+    go false h = (cc, cc, cc)
 
-    go : (o : Outcome (List ℕ)) → walk (length bs) (boxesAt bs) rows 0 [] 0 ≡ o → andThen o (ending bs) ≡ refused n at i
-        → (n ≡ 5) ⊎ Names (length bs) (boxesAt bs) rows 0 [] 0 n at i
-    go (done vals end) e h = inl (last vals end (eqb (end + leading (drop end bs)) (length bs)) h)
+-- A refusal behind the last field: the first one of some bits, and no field.
+pub record Behind (room : ℕ) (from : Source) (rows : List Row) (k : ℕ) (bits : ℕ → List Bool) (n at i : ℕ) : Type 0 where
+  pub end : ℕ
+  pub vals : List ℕ
+  pub passed : walk room from rows 0 [] 0 ≡ done vals end
+  pub number : n ≡ k
+  pub place : at ≡ leading (bits end)
+  pub field : i ≡ 0
+
+-- A reading that is refused names the row at fault,
+pub read-names : (rows : List Row) (bs : List Bool) (n at i : ℕ) → read rows bs ≡ refused n at i → Names (length bs) (boxesAt bs) rows 0 [] 0 n at i
+unfolding read
+read-names rows bs n at i h = go (then-names rows (length bs) (boxesAt bs) _ n at i h)
+  where
+    go : ((vals : List ℕ) × (end : ℕ) × (walk (length bs) (boxesAt bs) rows 0 [] 0 ≡ done vals end)
+        × (done (holding bs vals end) end ≡ refused n at i))
+        ⊎ Names (length bs) (boxesAt bs) rows 0 [] 0 n at i
+        → Names (length bs) (boxesAt bs) rows 0 [] 0 n at i
+    go (inl (vals, end, passed, h)) = let z : _≡_ {A = ℕ} 0 1 = cc in absurd (omega arith)
+    go (inr names) = names
+
+-- that of a list too, unless it is 5 at the first one behind the last field,
+pub bare-names : (rows : List Row) (bs : List Bool) (n at i : ℕ) → readBare rows bs ≡ refused n at i
+    → Behind (length bs) (boxesAt bs) rows 5 (λ end. cleared end bs) n at i ⊎ Names (length bs) (boxesAt bs) rows 0 [] 0 n at i
+unfolding readBare read
+bare-names rows bs n at i = go (walk (length bs) (boxesAt bs) rows 0 [] 0) refl
+  where
+    go : (o : Outcome (List ℕ)) → walk (length bs) (boxesAt bs) rows 0 [] 0 ≡ o
+        → andThen (andThen o (λ vals end. done (holding bs vals end) end)) (λ c end. blank 5 (c .margin) (c .numbers) end)
+        ≡ refused n at i
+        → Behind (length bs) (boxesAt bs) rows 5 (λ end. cleared end bs) n at i ⊎ Names (length bs) (boxesAt bs) rows 0 [] 0 n at i
+    go (done vals end) e h =
+        let (number, place, field) = blank-names 5 (cleared end bs) vals end n at i h in
+        inl (record { end = end; vals = vals; passed = e; number = number; place = place; field = field })
     go (refused m p k) e h = inr (walk-names (length bs) (boxesAt bs) rows 0 [] 0 n at i (e ∙ cc))
+
+-- and a writing, unless it is 7 at the first bit of the margin that is out of place.
+pub write-names : (rows : List Row) (room : ℕ) (c : Content) (n at i : ℕ) → write rows room c ≡ refused n at i
+    → Behind room (slotsOf (c .numbers)) rows 7 (λ end. stray room end (c .margin)) n at i ⊎ Names room (slotsOf (c .numbers)) rows 0 [] 0 n at i
+unfolding write
+write-names rows room c n at i h = go (then-names rows room (slotsOf (c .numbers)) _ n at i h)
+  where
+    bits : ℕ → List Bool
+    bits end = laidOn [] (frame rows (c .numbers)) (c .numbers) ++ take (room - end) (drop end (c .margin))
+
+    go : ((vals : List ℕ) × (end : ℕ) × (walk room (slotsOf (c .numbers)) rows 0 [] 0 ≡ done vals end)
+        × (blank 7 (stray room end (c .margin)) (bits end) end ≡ refused n at i))
+        ⊎ Names room (slotsOf (c .numbers)) rows 0 [] 0 n at i
+        → Behind room (slotsOf (c .numbers)) rows 7 (λ end. stray room end (c .margin)) n at i ⊎ Names room (slotsOf (c .numbers)) rows 0 [] 0 n at i
+    go (inl (vals, end, passed, h)) =
+        let (number, place, field) = blank-names 7 (stray room end (c .margin)) (bits end) end n at i h in
+        inl (record { end = end; vals = vals; passed = passed; number = number; place = place; field = field })
+    go (inr names) = inr names

@@ -1,5 +1,5 @@
--- The raise law: what a reading becomes after a write that only raises bits and spares bitmaps, counts and the margin.
-use Prim.Native.Nat.{ℕ, suc, _+_, _-_, _≤_, _<_}
+-- The raise law: what a reading becomes after a write that only raises bits and spares bitmaps and counts.
+use Prim.Native.Nat.{ℕ, suc, _+_, _≤_, _<_}
 use mathlib.Core.List.{List, [], _∷_, _++_}
 use mathlib.Core.Bool.{Bool, true, false}
 use mathlib.Core.Path.{_≡_, refl, sym, ap, _∙_}
@@ -8,13 +8,13 @@ use lib.Dec.{eqb, ltb}
 use borrow.Author.Tests.{ltb-true, ltb-false}
 use lib.ListN.{length, getD, take, drop, length-take, length-drop, take-append-drop, List·getD-eq-default}
 use lib.Seq.{take-add, drop-drop, getD-take}
-use Rattle.bits.specs.Bits.{zeros, join}
+use Rattle.bits.specs.Bits.{zeros, cleared, join}
 use Rattle.rows.specs.Row.{Row, Cond, always, bit, above, told, broken}
-use Rattle.rows.specs.Walk.{Outcome, done, refused, andThen, total, walk, numbers, boxesAt, ending, read, frameOn, frame, slots}
-use Rattle.rows.specs.Raise.{raisedIn, after, slotOf, named, AllZero, Spares, judgeOn, judge}
-use Rattle.rows.proofs.Boxes.{total-append, length-join, drop-join, join-zeros, numbers-join, numbers-spared}
+use Rattle.rows.specs.Walk.{Outcome, done, refused, andThen, total, walk, numbers, boxesAt, Content, holding, read, frameOn, frame, slots}
+use Rattle.rows.specs.Raise.{raisedIn, after, slotOf, named, AllZero, Spares, judgeOn, judge, raisedTo}
+use Rattle.rows.proofs.Boxes.{total-append, length-join, drop-join, join-append, join-zeros, numbers-join, numbers-spared}
 use Rattle.rows.proofs.Walked.{length-frame, not-refused, Held, walk-judged}
-use Rattle.rows.proofs.RoundTrip.{ends-well, Reading, reading}
+use Rattle.rows.proofs.RoundTrip.{Reading, reading}
 
 -- Numbers that break no rule are handed on, and end where their boxes end.
 judged : (rs : List Row) (i : ℕ) (ws all vals : List ℕ) (at : ℕ) {vs : List ℕ} {end : ℕ} → length ws ≡ slots rs
@@ -56,40 +56,52 @@ module _ (us xs ys : List ℕ) (agree : (s : ℕ) → getD us s 0 ≡ 0 → getD
       rw (row.0, ← take-add n k xs, ← take-add n k ys, drop-drop k n xs, drop-drop k n ys, frame-same rs (n + k) row.1)
 
 -- After a write that spares a reading, the raised numbers stand in the bits, in the frame that was; so a walk judges them.
-raised-walk : {rows : List Row} {bs w : List Bool} {vals : List ℕ} {end : ℕ} → Reading rows bs vals end → length w ≡ length bs → Spares rows vals end w
-    → walk (length bs) (boxesAt (join bs w)) rows 0 [] 0 ≡ judge rows (frame rows vals) (after rows vals w)
+raised-walk : (rows : List Row) (bs w : List Bool) {c : Content} {end : ℕ} → Reading rows bs c end → length w ≡ length bs → Spares rows (c .numbers) w
+    → walk (length bs) (boxesAt (join bs w)) rows 0 [] 0 ≡ judge rows (frame rows (c .numbers)) (after rows (c .numbers) w)
 unfolding frame after judge
-raised-walk {rows} {bs} {w} {vals} r n spares =
+raised-walk rows bs w {c} r n spares =
+    let vals : List ℕ = c .numbers in
     let f : List ℕ = frameOn rows [] vals in
     let us : List ℕ = numbers f w in
     let ys : List ℕ = raisedIn f vals us in
     let inside : 0 + total f ≤ length bs = omega arith in
     let joined : numbers f (join bs w) ≡ ys = numbers-join f bs w n (omega arith) ∙ ap (λ (l : List ℕ). raisedIn f l us) (sym (r .held)) in
     let agree : (s : ℕ) → getD us s 0 ≡ 0 → getD vals s 0 ≡ getD ys s 0 = λ s z. rw (← joined, numbers-spared f bs w s n z) (ap (λ (l : List ℕ). getD l s 0) (r .held)) in
-    let frames : frameOn rows [] ys ≡ f = sym (frame-same us vals ys agree rows 0 (spares .bitmaps)) in
+    let frames : frameOn rows [] ys ≡ f = sym (frame-same us vals ys agree rows 0 spares) in
     let held : Held (join bs w) rows [] 0 ys = rw frames (sym joined) in
     rw frames at (walk-judged (length bs) (join bs w) rows 0 [] 0 held (rw frames inside))
 
 -- Where they break no rule, the outcome is the raised numbers, with the end that was.
-pub raise-done : (rows : List Row) (bs w : List Bool) {vals : List ℕ} {end : ℕ} {vs : List ℕ} {e : ℕ} → read rows bs ≡ done vals end
-    → judge rows (frame rows vals) (after rows vals w) ≡ done vs e → (vs ≡ after rows vals w) × (e ≡ end)
+pub raise-done : (rows : List Row) (bs w : List Bool) {c : Content} {end : ℕ} {vs : List ℕ} {e : ℕ} → read rows bs ≡ done c end
+    → judge rows (frame rows (c .numbers)) (after rows (c .numbers) w) ≡ done vs e → (vs ≡ after rows (c .numbers) w) × (e ≡ end)
 unfolding judge frame
-raise-done rows bs w {vals} h sound =
+raise-done rows bs w {c} h sound =
     let r = reading rows bs h in
-    let (same, ends) = judged rows 0 (frameOn rows [] vals) _ _ 0 (length-frame rows [] vals) sound in
+    let (same, ends) = judged rows 0 (frameOn rows [] (c .numbers)) _ _ 0 (length-frame rows [] (c .numbers)) sound in
     (same, omega arith)
 
--- The raise law: after a write that spares a reading, the bits read as the raised numbers, judged by the rules.
-pub raise-law : {rows : List Row} (bs : List Bool) {w : List Bool} {vals : List ℕ} {end : ℕ} → read rows bs ≡ done vals end → length w ≡ length bs
-    → Spares rows vals end w → read rows (join bs w) ≡ judge rows (frame rows vals) (after rows vals w)
-unfolding read
-raise-law {rows} bs {w} {vals} {end} h n spares =
+-- The margin of joined bits is their margins joined.
+cleared-join : (end : ℕ) (bs w : List Bool) → length w ≡ length bs → cleared end (join bs w) ≡ join (cleared end bs) (cleared end w)
+cleared-join end bs w n =
+    ap (λ (l : List Bool). zeros end ++ l) (drop-join end bs w n)
+    ∙ ap (λ (l : List Bool). l ++ join (drop end bs) (drop end w)) (sym (join-zeros (zeros end) end))
+    ∙ sym (join-append (zeros end) (drop end bs) (zeros end) (drop end w) refl)
+
+-- The raise law: after a write that spares a reading, the bits read as the raised numbers, judged by the rules, and the raised margin.
+pub raise-law : (rows : List Row) (bs w : List Bool) {c : Content} {end : ℕ} → read rows bs ≡ done c end → length w ≡ length bs
+    → Spares rows (c .numbers) w → read rows (join bs w) ≡ raisedTo rows c end w
+unfolding read raisedTo
+raise-law rows bs w {c} {end} h n spares =
     let r = reading rows bs h in
-    let long : length (join bs w) ≡ length bs = length-join bs w in
-    let margin : drop end (join bs w) ≡ zeros (length (join bs w) - end) = rw (drop-join end bs w n, r .margin, spares .margin, join-zeros, long) in
-    rw (long, raised-walk r n spares) (go (judge rows (frame rows vals) (after rows vals w)) refl (λ vs. ends-well (join bs w) vs end (omega arith) margin))
+    let margin : cleared end (join bs w) ≡ join (c .margin) (cleared end w) = cleared-join end bs w n ∙ rw (r .margin) in
+    rw (length-join bs w, raised-walk rows bs w r n spares) (go (judge rows (frame rows (c .numbers)) (after rows (c .numbers) w)) refl margin)
   where
-    go : (o : Outcome (List ℕ)) → judge rows (frame rows vals) (after rows vals w) ≡ o
-        → ((vs : List ℕ) → ending (join bs w) vs end ≡ done vs end) → andThen o (ending (join bs w)) ≡ o
-    go (done vs e) sound ends = rw (raise-done rows bs w h sound .1) (ends vs)
-    go (refused m at i) sound ends = refl
+    raisedHolding : List ℕ → Content
+    raisedHolding vals = record { numbers = vals; margin = join (c .margin) (cleared end w) }
+
+    go : (o : Outcome (List ℕ)) → judge rows (frame rows (c .numbers)) (after rows (c .numbers) w) ≡ o
+        → cleared end (join bs w) ≡ join (c .margin) (cleared end w)
+        → andThen o (λ vals e. done (holding (join bs w) vals e) e)
+        ≡ andThen o (λ vals e. done (raisedHolding vals) e)
+    go (done vs e) sound margin = rw (raise-done rows bs w h sound .1, margin)
+    go (refused m at i) sound margin = refl

@@ -9,8 +9,8 @@ use borrow.Author.Tests.{eqb-true, eqb-false, eq-eqb, ltb-true, lt-ltb}
 use lib.ListN.{length, getD, drop}
 use Rattle.bits.specs.Bits.{odd, leading}
 use Rattle.rows.specs.Row.{Row, pick, among, told, holds, broken}
-use Rattle.rows.specs.Walk.{Outcome, done, refused, andThen, total, boxesOf, exceeds, Source, walk, boxesAt, slotsOf, ending, read, write}
-use Rattle.rows.specs.Refusing.{widest, ruledBy, ruled, walkNumbers, readNumbers, writeNumbers, ofFields, mayName}
+use Rattle.rows.specs.Walk.{Outcome, done, refused, andThen, total, boxesOf, exceeds, Source, walk, boxesAt, slotsOf, Content, bare, blank, read, readBare, stray, write, writeBare}
+use Rattle.rows.specs.Refusing.{widest, ruledBy, ruled, walkNumbers, bareNumbers, writeNumbers, ofFields, mayName}
 use Rattle.rows.specs.declared.Rule.{Rule}
 use Rattle.rows.specs.declared.Rule.the-variants.{Any, Most, Tariff, NoSecond}
 use Rattle.rows.proofs.Boxes.{numbers-fit}
@@ -134,41 +134,69 @@ module _ (room : ℕ) (from : Source) (ns : List ℕ) (wide : (at n : ℕ) (ws :
           }
       go false e false f more = last (eqb own 0) refl more
 
--- From the start of a table, with one number more.
-walk-numbers : (m room : ℕ) (from : Source) (rows : List Row)
-    → ((at n : ℕ) (ws : List ℕ) → exceeds ws (from at n ws) ≡ true → among 7 (m ∷ walkNumbers room rows) ≡ true)
-    → Refuses (m ∷ walkNumbers room rows) (walk room from rows 0 [] 0)
-walk-numbers m room from rows wide =
-    walk-number room from (m ∷ walkNumbers room rows) wide rows 0 [] 0
-    (λ past. rw (lt-ltb room (widest rows) (omega arith)) (among-behind 2 (m ∷ []) (2 ∷ ruled rows) refl))
-    (λ k there. go (ltb room (widest rows)) k there)
+-- From the start of a table, with some numbers more.
+walk-numbers : (ms : List ℕ) (room : ℕ) (from : Source) (rows : List Row)
+    → ((at n : ℕ) (ws : List ℕ) → exceeds ws (from at n ws) ≡ true → among 7 (ms ++ walkNumbers room rows) ≡ true)
+    → Refuses (ms ++ walkNumbers room rows) (walk room from rows 0 [] 0)
+walk-numbers ms room from rows wide =
+    walk-number room from (ms ++ walkNumbers room rows) wide rows 0 [] 0
+    (λ past. rw (lt-ltb room (widest rows) (omega arith)) (among-behind 2 ms (2 ∷ ruled rows) refl))
+    (λ k there. among-behind k ms (walkNumbers room rows) (go (ltb room (widest rows)) k there))
   where
-    go : (t : Bool) (k : ℕ) → among k (ruled rows) ≡ true → among k (m ∷ pick t (2 ∷ ruled rows) (ruled rows)) ≡ true
-    go true k there = among-behind k (m ∷ 2 ∷ []) (ruled rows) there
-    go false k there = among-behind k (m ∷ []) (ruled rows) there
+    go : (t : Bool) (k : ℕ) → among k (ruled rows) ≡ true → among k (pick t (2 ∷ ruled rows) (ruled rows)) ≡ true
+    go true k there = among-behind k (2 ∷ []) (ruled rows) there
+    go false k there = there
+
+-- Bits that must be zero refuse with their number alone.
+blank-number : {A : Type 0} (k : ℕ) (ns : List ℕ) (bs : List Bool) (a : A) (end : ℕ) → (k ≡ 0 → ⊥) → among k ns ≡ true → mayName k 0 ≡ true
+    → Refuses ns (blank k bs a end)
+unfolding blank
+blank-number k ns bs a end some listed named = go (eqb (leading bs) (length bs))
+  where
+    go : (t : Bool) → Refuses ns (pick t (done a end) (refused k (leading bs) 0))
+    go true = tt
+    go false = record { some = some; listed = listed; named = named }
 
 -- A reading refuses with no other number than these,
-pub read-number : (rows : List Row) (bs : List Bool) → Refuses (readNumbers (length bs) rows) (read rows bs)
-unfolding read ending
+pub read-number : (rows : List Row) (bs : List Bool) → Refuses (walkNumbers (length bs) rows) (read rows bs)
+unfolding read
 read-number rows bs =
-    refuses-then (readNumbers (length bs) rows) (walk (length bs) (boxesAt bs) rows 0 [] 0) (ending bs)
-    (walk-numbers 5 (length bs) (boxesAt bs) rows (λ at k ws e. absurd (true≢false (sym e ∙ numbers-fit ws (drop at bs)))))
-    (λ vals end. go (eqb (end + leading (drop end bs)) (length bs)) vals end (end + leading (drop end bs)))
-  where
-    go : (t : Bool) (vals : List ℕ) (end place : ℕ) → Refuses (readNumbers (length bs) rows) (pick t (done vals end) (refused 5 place 0))
-    go true vals end place = tt
-    go false vals end place = record { some = λ z. omega arith; listed = refl; named = refl }
+    refuses-then (walkNumbers (length bs) rows) (walk (length bs) (boxesAt bs) rows 0 [] 0) _
+    (walk-numbers [] (length bs) (boxesAt bs) rows (λ at k ws e. absurd (true≢false (sym e ∙ numbers-fit ws (drop at bs)))))
+    (λ vals end. tt)
+
+-- that of a list with 5 besides,
+pub bare-number : (rows : List Row) (bs : List Bool) → Refuses (bareNumbers (length bs) rows) (readBare rows bs)
+unfolding readBare
+bare-number rows bs =
+    refuses-then (bareNumbers (length bs) rows) (read rows bs) (λ c end. blank 5 (c .margin) (c .numbers) end)
+    (refuses-behind (5 ∷ []) (walkNumbers (length bs) rows) (read rows bs) (read-number rows bs))
+    (λ c end. blank-number 5 (bareNumbers (length bs) rows) (c .margin) (c .numbers) end (λ z. omega arith) refl refl)
 
 -- and a writing with no other than these.
-pub write-number : (rows : List Row) (room : ℕ) (vals : List ℕ) → Refuses (writeNumbers room rows) (write rows room vals)
+pub walk-written : (rows : List Row) (room : ℕ) (vals : List ℕ) → Refuses (writeNumbers room rows) (walk room (slotsOf vals) rows 0 [] 0)
+walk-written rows room vals = walk-numbers (7 ∷ []) room (slotsOf vals) rows (λ at k ws e. refl)
+
+pub write-number : (rows : List Row) (room : ℕ) (c : Content) → Refuses (writeNumbers room rows) (write rows room c)
 unfolding write
-write-number rows room vals =
-    refuses-then (writeNumbers room rows) (walk room (slotsOf vals) rows 0 [] 0) _ (walk-numbers 7 room (slotsOf vals) rows (λ at k ws e. refl))
-    (λ all end. tt)
+write-number rows room c =
+    refuses-then (writeNumbers room rows) (walk room (slotsOf (c .numbers)) rows 0 [] 0) _
+    (walk-written rows room (c .numbers))
+    (λ all end. blank-number 7 (writeNumbers room rows) (stray room end (c .margin)) _ end (λ z. omega arith) refl refl)
+
+pub bare-write-number : (rows : List Row) (room : ℕ) (vals : List ℕ) → Refuses (writeNumbers room rows) (writeBare rows room vals)
+unfolding writeBare
+bare-write-number rows room vals = write-number rows room (bare room vals)
 
 -- None of them is 0.
 pub read-refused : (rows : List Row) (bs : List Bool) {n at i : ℕ} → read rows bs ≡ refused n at i → n ≡ 0 → ⊥
 read-refused rows bs e = (rw e at (read-number rows bs)) .some
 
-pub write-refused : (rows : List Row) (room : ℕ) (vals : List ℕ) {n at i : ℕ} → write rows room vals ≡ refused n at i → n ≡ 0 → ⊥
-write-refused rows room vals e = (rw e at (write-number rows room vals)) .some
+pub bare-refused : (rows : List Row) (bs : List Bool) {n at i : ℕ} → readBare rows bs ≡ refused n at i → n ≡ 0 → ⊥
+bare-refused rows bs e = (rw e at (bare-number rows bs)) .some
+
+pub write-refused : (rows : List Row) (room : ℕ) (c : Content) {n at i : ℕ} → write rows room c ≡ refused n at i → n ≡ 0 → ⊥
+write-refused rows room c e = (rw e at (write-number rows room c)) .some
+
+pub bare-write-refused : (rows : List Row) (room : ℕ) (vals : List ℕ) {n at i : ℕ} → writeBare rows room vals ≡ refused n at i → n ≡ 0 → ⊥
+bare-write-refused rows room vals e = (rw e at (bare-write-number rows room vals)) .some

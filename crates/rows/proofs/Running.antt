@@ -6,16 +6,19 @@ use mathlib.Core.Bool.{Bool, true, false}
 use mathlib.Core.Path.{_≡_, refl, ap, _∙_}
 use native.Mathlib.Omega.{arith}
 use lib.Dec.{eqb}
+use borrow.Author.Tests.{eq-eqb, ne-eqb}
 use lib.ListN.{length, take, drop, length-drop, take-append-drop}
 use lib.Seq.{drop-append-seam}
-use Rattle.bits.specs.Bits.{cut, zeros}
+use Rattle.bits.specs.Bits.{cut, cleared, zeros}
+use Rattle.bits.proofs.Cutting.{length-cut}
 use Rattle.rows.specs.Row.{Row, Cond, pick, told, holds}
-use Rattle.rows.specs.Walk.{Outcome, done, refused, andThen, walk, there, boxesAt, slotsOf, frameOn, frame, laidOn, slots, ending, read, write}
-use Rattle.rows.specs.inner.Step.{passes, resume, Ready, Took, Ended}
+use Rattle.rows.specs.Walk.{Outcome, done, refused, andThen, walk, there, boxesAt, slotsOf, frameOn, frame, laidOn, slots, holding, blank, read, readBare, write, writeBare}
+use Rattle.rows.specs.inner.Step.{passes, resume, Ready, Took, Ended, Kept}
 use Rattle.rows.specs.inner.Line.{start, Takes, taken, _▸_, Puts, given, _◂_, tells}
 use Rattle.rows.specs.declared.Cursor.{Cursor}
 use Rattle.rows.specs.declared.Rule.{Rule}
 use Rattle.rows.proofs.Boxes.{length-there, laid-append}
+use Rattle.rows.proofs.RoundTrip.{bare-writes}
 use Rattle.rows.proofs.Taking.{took-refused, took-absent, ended-there}
 
 module _ (words : List ℕ) (end : ℕ) (bs : List Bool) (long : length bs ≡ end) (cuts : words ≡ cut 32 64 (length words) bs) where
@@ -27,16 +30,40 @@ module _ (words : List ℕ) (end : ℕ) (bs : List Bool) (long : length bs ≡ e
   takes-run few (_▸_ {k} {rs} {seen} took rest) =
       took .step bs long cuts k rs seen refl (omega arith) ∙ takes-run (omega (arith, took .counted)) rest
 
-  -- A whole reading.
-  pub takes-read : (rows : List Row) (all : List ℕ) (d e : Cursor)
+  -- A whole reading: the numbers, and the margin behind them,
+  pub takes-read : (rows : List Row) (all : List ℕ) (d : Cursor)
+      → length rows < 2 ^ 32
+      → Takes words end rows [] start all d
+      → read rows bs ≡ tells d (holding bs all (d .at))
+  unfolding read resume
+  takes-read rows all d few line =
+      let steps : walk (length bs) (boxesAt bs) rows 0 [] 0 ≡ resume end (boxesAt bs) [] all d = rw long (takes-run (omega arith) line) in
+      ap (λ (o : Outcome (List ℕ)). andThen o (λ vals at. done (holding bs vals at) at)) steps ∙ go (eqb (d .why) 0)
+    where
+      go : (b : Bool)
+          → andThen (pick b (done all (d .at)) (refused (d .why) (d .at) (d .field - 1))) (λ vals at. done (holding bs vals at) at)
+          ≡ pick b (done (holding bs all (d .at)) (d .at)) (refused (d .why) (d .at) (d .field - 1))
+      go true = refl
+      go false = refl
+
+  -- and of a list, with its end.
+  pub takes-bare : (rows : List Row) (all : List ℕ) (d e : Cursor)
       → length rows < 2 ^ 32
       → Takes words end rows [] start all d
       → Ended words end d e
-      → read rows bs ≡ tells e all
-  unfolding read resume
-  takes-read rows all d e few line ended =
+      → readBare rows bs ≡ tells e all
+  unfolding readBare read resume
+  takes-bare rows all d e few line ended =
       let steps : walk (length bs) (boxesAt bs) rows 0 [] 0 ≡ resume end (boxesAt bs) [] all d = rw long (takes-run (omega arith) line) in
-      ap (λ (o : Outcome (List ℕ)). andThen o (ending bs)) steps ∙ ended .says bs long cuts all
+      both (walk (length bs) (boxesAt bs) rows 0 [] 0)
+      ∙ ap (λ (o : Outcome (List ℕ)). andThen o (λ vals at. blank 5 (cleared at bs) vals at)) steps
+      ∙ ended .says bs long cuts all
+    where
+      both : (o : Outcome (List ℕ))
+          → andThen (andThen o (λ vals at. done (holding bs vals at) at)) (λ c at. blank 5 (c .margin) (c .numbers) at)
+          ≡ andThen o (λ vals at. blank 5 (cleared at bs) vals at)
+      both (done vals at) = refl
+      both (refused n at i) = refl
 
 module _ (room : ℕ) where
   -- What the numbers put come to, and the draft where there was no fault.
@@ -82,29 +109,57 @@ module _ (room : ℕ) where
             rw whole (two .0, rw (gave .long) at (two .1));
       }
 
-  -- A whole writing: what it comes to, and the draft where there was no fault.
-  pub puts-write : (rows : List Row) (vals xs all ys : List ℕ) (d : Cursor)
+  -- A whole line of puts: what its walk comes to, and the draft where there was no fault.
+  pub record Walks (rows : List Row) (vals xs ys : List ℕ) (d : Cursor) : Type 0 where
+    pub says : walk room (slotsOf vals) rows 0 [] 0 ≡ tells d vals
+    pub fills : d .why ≡ 0 → length (laidOn [] (frame rows vals) vals) ≡ d .at
+    pub drawn : d .why ≡ 0 → ys ≡ cut 32 32 (length xs) (laidOn [] (frame rows vals) vals)
+
+  pub puts-walk : (rows : List Row) (vals xs all ys : List ℕ) (d : Cursor)
       → length rows < 2 ^ 32
       → length vals ≡ slots rows
       → xs ≡ cut 32 32 (length xs) []
       → Puts room vals rows [] xs start all ys d
-      → (write rows room vals ≡ tells d (laidOn [] (frame rows vals) vals ++ zeros (room - d .at)))
-      × (d .why ≡ 0 → ys ≡ cut 32 32 (length xs) (laidOn [] (frame rows vals) vals))
-  unfolding write frame resume
-  puts-write rows vals xs all ys d few sized empty puts =
+      → Walks rows vals xs ys d
+  unfolding frame resume
+  puts-walk rows vals xs all ys d few sized empty puts =
       let ran = puts-run vals vals refl sized (omega arith) puts in
-      let bits : List Bool = laidOn [] (frameOn rows [] vals) vals in
-      let steps : walk room (slotsOf vals) rows 0 [] 0 ≡ tells d vals = ran .comes in (
-        ap (λ (o : Outcome (List ℕ)). andThen o (λ all end. done (bits ++ zeros (room - end)) end)) steps
-            ∙ go (eqb (d .why) 0),
-        λ ok. ran .laid ok [] refl empty .1,
-      )
+      record { says = ran .comes; fills = λ ok. ran .laid ok [] refl empty .0; drawn = λ ok. ran .laid ok [] refl empty .1 }
+
+  -- A list's writing: zeros behind the boxes.
+  pub puts-bare : (rows : List Row) (vals xs ys : List ℕ) (d : Cursor) → Walks rows vals xs ys d
+      → writeBare rows room vals ≡ tells d (laidOn [] (frame rows vals) vals ++ zeros (room - d .at))
+  puts-bare rows vals xs ys d w =
+      bare-writes rows room vals
+      ∙ ap (λ (o : Outcome (List ℕ)). andThen o (λ all end. done (laidOn [] (frame rows vals) vals ++ zeros (room - end)) end)) (w .says)
+      ∙ go (eqb (d .why) 0)
     where
       go : (b : Bool)
-          → andThen (pick b (done vals (d .at)) (refused (d .why) (d .at) (d .field - 1))) (λ all end. done (laidOn [] (frameOn rows [] vals) vals ++ zeros (room - end)) end)
-          ≡ pick b (done (laidOn [] (frameOn rows [] vals) vals ++ zeros (room - d .at)) (d .at)) (refused (d .why) (d .at) (d .field - 1))
+          → andThen (pick b (done vals (d .at)) (refused (d .why) (d .at) (d .field - 1))) (λ all end. done (laidOn [] (frame rows vals) vals ++ zeros (room - end)) end)
+          ≡ pick b (done (laidOn [] (frame rows vals) vals ++ zeros (room - d .at)) (d .at)) (refused (d .why) (d .at) (d .field - 1))
       go true = refl
       go false = refl
+
+  -- A writing that is refused at a field,
+  pub puts-refused : (rows : List Row) (vals xs ys : List ℕ) (m : List Bool) (d : Cursor) → Walks rows vals xs ys d
+      → (d .why ≡ 0 → ⊥)
+      → write rows room (record { numbers = vals; margin = m }) ≡ refused (d .why) (d .at) (d .field - 1)
+  unfolding write
+  puts-refused rows vals xs ys m d w why = rw (w .says, ne-eqb _ _ why)
+
+  -- and one with its margin.
+  pub puts-kept : (rows : List Row) (vals xs ys zs : List ℕ) (m : List Bool) (d e : Cursor) → Walks rows vals xs ys d
+      → d .why ≡ 0
+      → Kept ys zs room d m e
+      → (write rows room (record { numbers = vals; margin = m }) ≡ tells e (laidOn [] (frame rows vals) vals ++ take (room - d .at) (drop (d .at) m)))
+      × (e .why ≡ 0 → zs ≡ cut 32 32 (length xs) (laidOn [] (frame rows vals) vals ++ take (room - d .at) (drop (d .at) m)))
+  unfolding write
+  puts-kept rows vals xs ys zs m d e w ok kept =
+      let bits : List Bool = laidOn [] (frame rows vals) vals in
+      let long : length ys ≡ length xs = ap length (w .drawn ok) ∙ length-cut 32 32 (length xs) bits in (
+        rw (w .says, eq-eqb _ _ ok) (kept .says (bits ++ take (room - d .at) (drop (d .at) m))),
+        λ done. rw long at (kept .laid done bits (w .fills ok) (rw long (w .drawn ok))),
+      )
 
 -- Two lines of takes are one.
 pub takes-append : {words : List ℕ} {end : ℕ} {rows more : List Row} {seen : List ℕ} {c : Cursor} {some : List ℕ} {d : Cursor} {all : List ℕ} {e : Cursor}

@@ -8,10 +8,10 @@ use lib.Dec.{eqb, ltb, leb}
 use borrow.Author.Tests.{ltb-true, ltb-false, le-leb, lt-leb}
 use lib.ListN.{length, take, drop, replicate, take-append-drop}
 use Rattle.rows.specs.Row.{Row, pick, told, holds, broken}
-use Rattle.rows.specs.Walk.{Outcome, done, refused, andThen, total, boxesOf, exceeds, fault, walk, slotsOf, read, write, frame, laidOn, firstPast, rankPast}
+use Rattle.rows.specs.Walk.{Outcome, done, refused, andThen, total, boxesOf, exceeds, fault, walk, slotsOf, Content, read, frame, laidOn, writeBare, firstPast, rankPast}
 use Rattle.bits.specs.Bits.{zeros}
 use Rattle.rows.proofs.Walked.{walk-row, slots-row, Held, walk-slots}
-use Rattle.rows.proofs.RoundTrip.{Reading, reading}
+use Rattle.rows.proofs.RoundTrip.{Reading, reading, bare-writes}
 use Rattle.rows.proofs.Changing.{passed}
 use Rattle.rows.proofs.Stepping.{total-same}
 
@@ -90,29 +90,30 @@ module _ (room : ℕ) where
       go false true n e = absurd (omega arith)
       go false false n e = (refl, e)
 
-held-on : (rows : List Row) (bs : List Bool) {vals : List ℕ} {end : ℕ} → Reading rows bs vals end → Held bs rows [] 0 vals
+held-on : (rows : List Row) (bs : List Bool) {c : Content} {end : ℕ} → Reading rows bs c end → Held bs rows [] 0 (c .numbers)
 unfolding frame
 held-on rows bs r = r .held
 
--- Of a whole writing.
+-- Of a list's whole writing.
 pub sound-written : {B : Type 0} (answer : ℕ → ℕ → ℕ → B) (rows : List Row) (room : ℕ) (vals : List ℕ) → Sound rows [] vals
-    → verdict answer (write rows room vals) ≡ pick (leb (total (fieldsOn rows [] vals)) room) (answer 0 0 0)
+    → verdict answer (writeBare rows room vals) ≡ pick (leb (total (fieldsOn rows [] vals)) room) (answer 0 0 0)
     (answer 2 (firstPast room (fieldsOn rows [] vals) 0) (rankPast room (fieldsOn rows [] vals) 0 0))
-unfolding write
 sound-written answer rows room vals s =
     let plain : 0 + total (fieldsOn rows [] vals) ≡ total (fieldsOn rows [] vals) = omega arith in
-    go (walk room (slotsOf vals) rows 0 [] 0) ∙ rw plain at (sound-walk room answer rows 0 [] vals 0 s (omega arith))
+    rw (bare-writes rows room vals)
+    (go (walk room (slotsOf vals) rows 0 [] 0) ∙ rw plain at (sound-walk room answer rows 0 [] vals 0 s (omega arith)))
   where
     go : (o : Outcome (List ℕ)) → verdict answer (andThen o (λ all end. done (laidOn [] (frame rows vals) vals ++ zeros (room - end)) end)) ≡ verdict answer o
     go (done all end) = refl
     go (refused n p j) = refl
 
 -- The numbers of a reading are sound.
-pub read-sound : (rows : List Row) (bs : List Bool) {vals : List ℕ} {end : ℕ} → read rows bs ≡ done vals end → Sound rows [] vals
-read-sound rows bs {vals} {end} h =
+pub read-sound : (rows : List Row) (bs : List Bool) {c : Content} {end : ℕ} → read rows bs ≡ done c end → Sound rows [] (c .numbers)
+read-sound rows bs {c} {end} h =
     let r = reading rows bs h in
-    let steps : walk (length bs) (slotsOf vals) rows 0 [] 0 ≡ done vals end = sym (walk-slots (length bs) bs rows 0 [] 0 (held-on rows bs r)) ∙ r .steps in
-    walk-sound (length bs) rows 0 [] vals 0 steps
+    let steps : walk (length bs) (slotsOf (c .numbers)) rows 0 [] 0 ≡ done (c .numbers) end =
+    sym (walk-slots (length bs) bs rows 0 [] 0 (held-on rows bs r)) ∙ r .steps in
+    walk-sound (length bs) rows 0 [] (c .numbers) 0 steps
 
 -- Fields of no bits behind others change nothing.
 pub total-behind : (ws : List ℕ) (m : ℕ) → total (ws ++ replicate m 0) ≡ total ws

@@ -9,15 +9,16 @@ use lib.Dec.{eqb}
 use lib.ListN.{length, take, drop, set, replicate, length-drop}
 use lib.Seq.{length-take-le, drop-drop, take-suc-set}
 use borrow.Author.Tests.{eq-eqb, ne-eqb}
-use Rattle.bits.specs.Bits.{number, cut, leading}
+use Rattle.bits.specs.Bits.{number, cut, cleared, leading}
 use Rattle.bits.specs.inner.Words.{numberAt}
 use Rattle.bits.proofs.Spelling.{number-lt}
+use Rattle.bits.proofs.Clearing.{leading-cleared, length-cleared}
 use Rattle.bits.proofs.Cutting.{number-at}
 use Rattle.bits.proofs.Fronts.{part, part-part, part-take}
 use Rattle.rows.proofs.Boxes.{numbers-fit}
 use Rattle.rows.proofs.Stepping.{admit-step, admitted-within, admitted-number, admitted-counted, admitted-none, admitted-past, broken-none, total-none, total-same}
 use Rattle.rows.specs.Row.{pick, told, holds, broken}
-use Rattle.rows.specs.Walk.{total, there, numbers, boxesAt, ending}
+use Rattle.rows.specs.Walk.{total, there, numbers, boxesAt, blank}
 use Rattle.rows.specs.inner.Step.{stays, passes, admitted, resume, Ready, Took, Ended, lettersAt}
 use Rattle.rows.specs.declared.Cursor.{Cursor}
 use Rattle.rows.specs.declared.When.{When}
@@ -244,21 +245,29 @@ ended-refused words end c why = record { says = λ bs long cuts seen. rw (ne-eqb
 
 module _ (words : List ℕ) (end : ℕ) (c : Cursor) (one : ℕ)
     (clear : c .why ≡ 0)
+    (within : c .at ≤ end)
     (found : (bs : List Bool) → length bs ≡ end → words ≡ cut 32 64 (length words) bs → one ≡ c .at + leading (drop (c .at) bs)) where
+  -- What was found is the first one of the margin.
+  first-left : (bs : List Bool) → length bs ≡ end → words ≡ cut 32 64 (length words) bs → leading (cleared (c .at) bs) ≡ one
+  first-left bs long cuts = leading-cleared (c .at) bs ∙ sym (found bs long cuts)
+
+  all-left : (bs : List Bool) → length bs ≡ end → length (cleared (c .at) bs) ≡ end
+  all-left bs long = length-cleared (c .at) bs (rw long within) ∙ long
+
   pub ended-done : one ≡ end → Ended words end c c
-  unfolding resume ending
+  unfolding resume blank
   ended-done last =
       record {
         says = λ bs long cuts seen.
-            rw (eq-eqb _ _ clear, eq-eqb _ _ (sym (found bs long cuts) ∙ last ∙ sym long));
+            rw (eq-eqb _ _ clear, eq-eqb _ _ (first-left bs long cuts ∙ last ∙ sym (all-left bs long)));
       }
 
   pub ended-five : (one ≡ end → ⊥) → Ended words end c (record { at = one; why = 5; field = 0; number = 0 })
-  unfolding resume ending
+  unfolding resume blank
   ended-five short =
       record {
         says = λ bs long cuts seen.
-            rw (eq-eqb _ _ clear, ne-eqb _ _ (λ e. short (found bs long cuts ∙ e ∙ long)), found bs long cuts);
+            rw (eq-eqb _ _ clear, ne-eqb _ _ (λ e. short (sym (first-left bs long cuts) ∙ e ∙ all-left bs long)), first-left bs long cuts);
       }
 
 -- Of two cursors without a refusal at one place the end is one.

@@ -7,7 +7,7 @@ use native.Mathlib.Omega.{arith}
 use lib.ListN.{length, getD, take, drop}
 use lib.Seq.{getD-append-add}
 use Rattle.rows.specs.Row.{Row, Cond, pick, told, holds}
-use Rattle.rows.specs.Walk.{done, total, boxesOf, numbers, frameOn, frame, read, slots}
+use Rattle.rows.specs.Walk.{done, total, boxesOf, numbers, Content, frameOn, frame, read, slots}
 use Rattle.rows.specs.declared.Rule.{Rule}
 use Rattle.rows.proofs.Boxes.{length-there, total-append}
 use Rattle.rows.proofs.RoundTrip.{reading}
@@ -41,11 +41,11 @@ module _ (w : ℕ) (k : Cond) (rule : Rule) (ws : List Row) where
       let less : total rest < w = omega (arith, total-append own rest) in
       rw length-there at (getD-append-add own rest (slots us) 0) ∙ frame-wide us (seen ++ take n vals) (drop n vals) less
 
-  pub read-wide : (us : List Row) (bs : List Bool) {vals : List ℕ} {end : ℕ} → length bs < w
-      → read (us ++ (row ∷ ws)) bs ≡ done vals end
-      → getD vals (slots us) 0 ≡ 0
+  pub read-wide : (us : List Row) (bs : List Bool) {c : Content} {end : ℕ} → length bs < w
+      → read (us ++ (row ∷ ws)) bs ≡ done c end
+      → getD (c .numbers) (slots us) 0 ≡ 0
   unfolding frame
-  read-wide us bs {vals} h e =
+  read-wide us bs {c} h e =
       let r = reading (us ++ (row ∷ ws)) bs e in
       ap (λ (l : List ℕ). getD l (slots us) 0) (r .held)
-      ∙ numbers-none (frameOn (us ++ (row ∷ ws)) [] vals) bs (slots us) (frame-wide us [] vals (omega arith))
+      ∙ numbers-none (frameOn (us ++ (row ∷ ws)) [] (c .numbers)) bs (slots us) (frame-wide us [] (c .numbers) (omega arith))

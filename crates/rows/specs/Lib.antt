@@ -1,6 +1,7 @@
 pub mod Row
 pub mod Walk
 pub mod Refusing
+pub mod Margin
 pub mod Raise
 pub mod Change
 pub mod table

@@ -1,13 +1,13 @@
 -- What bits that only rise do to the numbers of a table. Document 01, "Gate writes" and "What the contracts must say".
-use Prim.Native.Nat.{ℕ, suc, _+_, _-_}
+use Prim.Native.Nat.{ℕ, suc, _+_}
 use mathlib.Core.List.{List, [], _∷_, _++_}
 use mathlib.Core.Bool.{Bool}
 use mathlib.Core.Path.{_≡_}
 use lib.Dec.{eqb}
 use lib.ListN.{length, getD, take, drop}
-use Rattle.bits.specs.Bits.{number, bitsOf, zeros, join}
+use Rattle.bits.specs.Bits.{number, bitsOf, cleared, join}
 use Rattle.rows.specs.Row.{Row, Cond, always, bit, above, pick, broken}
-use Rattle.rows.specs.Walk.{Outcome, done, refused, total, numbers, frame}
+use Rattle.rows.specs.Walk.{Outcome, done, refused, andThen, Content, total, numbers, frame}
 
 -- The number v in a box of w bits, with the ones of u raised in it.
 abbrev pub raised : ℕ → ℕ → ℕ → ℕ
@@ -38,10 +38,9 @@ abbrev pub AllZero : List ℕ → List ℕ → Type 0
 AllZero us [] = Unit {0}
 AllZero us (s ∷ ss) = (getD us s 0 ≡ 0) × AllZero us ss
 
--- A write spares a reading: it has no one in a box that a condition refers to, and none past the end.
-pub record Spares (rows : List Row) (vals : List ℕ) (end : ℕ) (w : List Bool) : Type 0 where
-  pub bitmaps : AllZero (numbers (frame rows vals) w) (named rows)
-  pub margin : drop end w ≡ zeros (length w - end)
+-- A write spares a reading: it has no one in a box that a condition refers to.
+abbrev pub Spares : List Row → List ℕ → List Bool → Type 0
+Spares rows vals w = AllZero (numbers (frame rows vals) w) (named rows)
 
 -- The numbers, or the refusal of the first field whose rule they break.
 abbrev pub judgeOn : List Row → ℕ → List ℕ → List ℕ → List ℕ → ℕ → Outcome (List ℕ)
@@ -55,3 +54,10 @@ judgeOn (r ∷ rs) i ws all vals at =
 -- ws the widths of their boxes.
 unfoldable pub judge : List Row → List ℕ → List ℕ → Outcome (List ℕ)
 judge rows ws vals = judgeOn rows 0 ws vals vals 0
+
+-- What a reading becomes after a write: its numbers so raised, if they break no rule, and its margin with the written bits past the end
+-- raised.
+unfoldable pub raisedTo : List Row → Content → ℕ → List Bool → Outcome Content
+raisedTo rows c end w =
+    andThen (judge rows (frame rows (c .numbers)) (after rows (c .numbers) w))
+    (λ vals last. done (record { numbers = vals; margin = join (c .margin) (cleared end w) }) last)

@@ -26,15 +26,15 @@ abbrev pub ruled : List Row → List ℕ
 ruled [] = []
 ruled (r ∷ rs) = ruledBy (r .rule) ++ ruled rs
 
--- Both ways: 2 only where the table can be wider than the room, and its rules.
+-- Reading and writing: 2 only where the table can be wider than the room, and its rules.
 abbrev pub walkNumbers : ℕ → List Row → List ℕ
 walkNumbers room rows = pick (ltb room (widest rows)) (2 ∷ ruled rows) (ruled rows)
 
--- In reading also 5, past the last field,
-abbrev pub readNumbers : ℕ → List Row → List ℕ
-readNumbers room rows = 5 ∷ walkNumbers room rows
+-- In reading a list also 5, past the last field,
+abbrev pub bareNumbers : ℕ → List Row → List ℕ
+bareNumbers room rows = 5 ∷ walkNumbers room rows
 
--- and in writing 7, a number too wide.
+-- and in writing 7, a number too wide or a bit of the margin out of place.
 abbrev pub writeNumbers : ℕ → List Row → List ℕ
 writeNumbers room rows = 7 ∷ walkNumbers room rows
 

@@ -5,7 +5,7 @@ use mathlib.Core.List.{List, [], _∷_, _++_, map}
 use mathlib.Core.Bool.{Bool, true, false}
 use lib.Dec.{eqb, ltb}
 use lib.ListN.{length, take, drop}
-use Rattle.bits.specs.Bits.{number, bitsOf, zeros, leading}
+use Rattle.bits.specs.Bits.{number, bitsOf, zeros, cleared, leading}
 use Rattle.rows.specs.Row.{Row, pick, told, holds, broken}
 use Rattle.rows.specs.declared.When.{When}
 
@@ -71,14 +71,31 @@ boxesAt bs at n ws = numbers ws (drop at bs)
 abbrev pub slotsOf : List ℕ → Source
 slotsOf vals at n ws = take (length ws) (drop n vals)
 
--- After the last field every bit is zero: 5 at the first that is not.
-unfoldable pub ending : List Bool → List ℕ → ℕ → Outcome (List ℕ)
-ending bs vals at =
-    pick (eqb (at + leading (drop at bs)) (length bs)) (done vals at) (refused 5 (at + leading (drop at bs)) 0)
+-- What a record or area holds: the numbers of its slots, and its margin, the bits after the last field. A margin stands in the
+-- record's own coordinates, with zeros in every field's place. Document 02, Q-7.
+pub record Content : Type 0 where
+  pub numbers : List ℕ
+  pub margin : List Bool
 
--- Reading a table from bits: the slots and the end of the last field.
-unfoldable pub read : List Row → List Bool → Outcome (List ℕ)
-read rows bs = andThen (walk (length bs) (boxesAt bs) rows 0 [] 0) (ending bs)
+-- What bits hold whose last field ends at a place.
+abbrev pub holding : List Bool → List ℕ → ℕ → Content
+holding bs vals end = record { numbers = vals; margin = cleared end bs }
+
+-- Numbers with nothing in a margin of so many bits.
+abbrev pub bare : ℕ → List ℕ → Content
+bare n vals = record { numbers = vals; margin = zeros n }
+
+-- Bits that must all be zero: n at the first that is not, which is no field's fault.
+unfoldable pub blank : {A : Type 0} → ℕ → List Bool → A → ℕ → Outcome A
+blank n bs a end = pick (eqb (leading bs) (length bs)) (done a end) (refused n (leading bs) 0)
+
+-- Reading a table from bits: what it holds and the end of the last field.
+unfoldable pub read : List Row → List Bool → Outcome Content
+read rows bs = andThen (walk (length bs) (boxesAt bs) rows 0 [] 0) (λ vals end. done (holding bs vals end) end)
+
+-- A list must have nothing in its margin: 5 at the first one.
+unfoldable pub readBare : List Row → List Bool → Outcome (List ℕ)
+readBare rows bs = andThen (read rows bs) (λ c end. blank 5 (c .margin) (c .numbers) end)
 
 -- The width of each slot's box, 0 where its field is absent.
 abbrev pub frameOn : List Row → List ℕ → List ℕ → List ℕ
@@ -95,11 +112,20 @@ laidOn out [] vs = out
 laidOn out (w ∷ ws) [] = out
 laidOn out (w ∷ ws) (v ∷ vs) = laidOn (out ++ bitsOf w v) ws vs
 
--- Writing a table: the slots' boxes one after the other, and zeros to the end of the room.
-unfoldable pub write : List Row → ℕ → List ℕ → Outcome (List Bool)
-write rows room vals =
-    andThen (walk room (slotsOf vals) rows 0 [] 0)
-    (λ all end. done (laidOn [] (frame rows vals) vals ++ zeros (room - end)) end)
+-- The bits of a margin that are out of place, in a field's or past the room, where they stand; zeros between.
+abbrev pub stray : ℕ → ℕ → List Bool → List Bool
+stray room end m = take end m ++ (zeros (room - end) ++ drop room m)
+
+-- Writing a table: the slots' boxes one after the other, and the margin behind them; 7 where a bit of it is out of place.
+unfoldable pub write : List Row → ℕ → Content → Outcome (List Bool)
+write rows room c =
+    andThen (walk room (slotsOf (c .numbers)) rows 0 [] 0)
+    (λ all end.
+    blank 7 (stray room end (c .margin)) (laidOn [] (frame rows (c .numbers)) (c .numbers) ++ take (room - end) (drop end (c .margin))) end)
+
+-- Writing a list: zeros to the end of the room.
+unfoldable pub writeBare : List Row → ℕ → List ℕ → Outcome (List Bool)
+writeBare rows room vals = write rows room (bare room vals)
 
 -- How many slots a table has.
 abbrev pub slots : List Row → ℕ

@@ -4,12 +4,14 @@ ghost use Prim.Native.Nat.{_+_, _^_, _<_};
 ghost use Rattle.rows.specs.inner.Step.{passes};
 use std::num::wrapping_add_u32;
 
+pub mod margin;
 pub mod put;
 mod step;
 pub mod take;
 
 // Where a walk over a record or area stands. After a refusal it stays there. It counts the fields that it has come to, absent ones
-// too: so many is the rank of the next field, and once one is at fault, that is the last counted. 5 and 6 are of no field: 0.
+// too: so many is the rank of the next field, and once one is at fault, that is the last counted. 5, 6 and the 7
+// of a margin are of no field: 0.
 pub struct Cursor {
     pub at: u32, // the bit reached: the place of the refusal, once there is one
     pub why: u32, // the refusal's number, 0 for none

@@ -1,7 +1,6 @@
 // The takes: each takes the next field of a reading, or does nothing after a refusal.
 ghost use mathlib.Core.Path.{_≡_};
 ghost use mathlib.Core.List.{List, [], _∷_};
-ghost use mathlib.Core.Bool.{Bool};
 ghost use Prim.Native.Nat.{ℕ, _/_, _≤_, _<_};
 ghost use lib.ListN.{length, replicate};
 ghost use Rattle.rows.specs.inner.Step.{Ready, Took, Ended, Spells, lettersAt};
@@ -177,7 +176,7 @@ pub fn never(end: u32, c: Cursor, when: When, w: u32) -> Cursor
     step::past(c)
 }
 
-// The end of a reading: 5 at the first one that is left.
+// The end of a list's reading: 5 at the first one that is left.
 pub fn end(words: &[u64], end: u32, c: Cursor) -> Cursor
     requires { ⌜ Ready (now words) end c × (end < 65536) ⌝ }
     ensures { λ d. ⌜ Ended (now (words .entry)) end c d ⌝ }

@@ -1,11 +1,11 @@
 -- The samples hold, each by computing both sides.
 use mathlib.Core.Path.{refl}
-use Rattle.rows.specs.Walk.{field, ending, read, frame, write}
+use Rattle.rows.specs.Walk.{field, blank, read, readBare, frame, write, writeBare}
 use Rattle.rows.specs.table.Event.{event}
 use Rattle.rows.specs.table.Special.{specialList}
 use Rattle.rows.specs.table.BestContracts.{contractList}
 use Rattle.rows.specs.table.Contract.{head, data42, data50, contract42, contract50}
-use Rattle.records.specs.Answer.{readRecord}
+use Rattle.records.specs.Answer.{readRecord, writeRecord}
 use Rattle.lists.specs.Listing.{readList, writeList}
 use Rattle.loading.specs.Loading.{blocking, placing, finding as preparing, loading}
 use Rattle.gate.specs.Writes.{finding}
@@ -13,12 +13,14 @@ use Rattle.samples.specs.All.{All, _&_}
 use Rattle.samples.specs.Samples.{Holds, samples}
 
 pub samples-hold : All Holds samples
-unfolding samples field ending read frame write event specialList contractList head data42 data50 contract42 contract50 readRecord readList writeList blocking placing preparing loading finding
+unfolding samples field blank read readBare frame write writeBare event specialList contractList head data42 data50 contract42 contract50 readRecord writeRecord readList writeList blocking placing preparing loading finding
 samples-hold =
     -- P1 to P6
     refl & refl & refl & refl & (refl, refl) & (refl, refl) & refl
     -- P7 to P10
     & refl & refl & refl & refl & refl & refl & refl
+    -- Q-7
+    & refl & refl & refl & refl
     -- P11 to P13
     & refl & refl & refl & refl
     -- slips

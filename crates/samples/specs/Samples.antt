@@ -1,5 +1,5 @@
 -- Samples: what the papers give as examples, one list of statements about the definitions. Document 01, "Samples at the edges" and
--- "Slips that look right"; 004 sections 7.2.3, 7.7 and 7.8.
+-- "Slips that look right"; 02, Q-7; 004 sections 7.2.3, 7.7 and 7.8.
 use Prim.Native.Nat.{ℕ, zero, suc, _+_, _*_, _/_, _%_, _^_}
 use mathlib.Core.Bool.{Bool, true, false, _&&_}
 use mathlib.Core.List.{List, [], _∷_, _++_, map}
@@ -10,7 +10,7 @@ use Rattle.bits.specs.Bits.{bitsOf, cut}
 use Rattle.rows.specs.Walk.{Outcome, done, refused, read}
 use Rattle.rows.specs.table.Contract.{contract50}
 use Rattle.records.specs.Answer.{Written, refusal, refusalAt, accepted, denied}
-use Rattle.records.specs.Event.{eventOf, eventRead}
+use Rattle.records.specs.Event.{eventOf, eventRead, eventWritten}
 use Rattle.records.specs.declared.event.Event.{Event}
 use Rattle.records.specs.declared.event.EventRead.{EventRead}
 use Rattle.records.specs.declared.event.EventRead.the-variants.{Read, Refused}
@@ -47,7 +47,7 @@ eventBytes date minute bitmap = cut 8 8 29 (bitsOf 14 date ++ (bitsOf 11 minute 
 
 -- An event that names a pointer, element [25].
 abbrev naming : ℕ → ℕ → ℕ → Event
-naming pointer date minute = eventOf (date ∷ minute ∷ 2 ^ 25 ∷ (replicate 25 0 ++ (pointer ∷ [])))
+naming pointer date minute = eventOf (date ∷ minute ∷ 2 ^ 25 ∷ (replicate 25 0 ++ (pointer ∷ []))) []
 
 -- The bits of a 50h contract whose head has provider, tariff and status, with a bitmap of groups: all else zeros.
 abbrev urbanBits : ℕ → List Bool
@@ -55,8 +55,8 @@ urbanBits groups =
     bitsOf 7 0b1100011 ++ (bitsOf (8 + 16 + 8) 0 ++ (bitsOf (14 + 14 + 16 + 2) 0 ++ (bitsOf 16 groups ++ bitsOf 131 0)))
 
 -- The bits that a reading takes, 0 where it refuses.
-abbrev extent : Outcome (List ℕ) → ℕ
-extent (done vals end) = end
+abbrev extent : {A : Type 0} → Outcome A → ℕ
+extent (done a end) = end
 extent (refused n at i) = 0
 
 -- The pointer that the rule names on a card of n records, c of them with counter, where no event blocks any.
@@ -78,6 +78,10 @@ pub data Case : Type 0 where
   urbanEnds : (groups : ℕ) → (bits : ℕ) → Case
   -- an event with this date, minute and bitmap, zeros behind, reads as this
   eventReads : (date minute bitmap : ℕ) → EventRead → Case
+  -- these bytes read as an event
+  bytesRead : List ℕ → EventRead → Case
+  -- an event of zeros with this margin, written onto these bytes
+  marginWritten : (margin before : List ℕ) → Written → Case
   -- the write from present to wanted, in a record that was so before
   finds : (present wanted before : List ℕ) → Written → Case
   -- with so many hours, an event of this day and minute blocks at that day and minute, or not
@@ -91,6 +95,8 @@ Holds (loads order list file lent left) = loading order list file lent ≡ left
 Holds (places n c counter es pointer listed) = (named n c counter es ≡ pointer) × (listedAfter pointer es ≡ listed)
 Holds (urbanEnds groups bits) = extent (read contract50 (urbanBits groups)) ≡ bits
 Holds (eventReads date minute bitmap answer) = eventRead (eventBytes date minute bitmap) ≡ answer
+Holds (bytesRead bytes answer) = eventRead bytes ≡ answer
+Holds (marginWritten margin before answer) = eventWritten before (eventOf [] margin) ≡ answer
 Holds (finds present wanted before answer) = finding present wanted before ≡ answer
 Holds (blocksAt hours day minute nowDay nowMinute answer) = blocks (moment nowDay nowMinute) hours 1 (naming 1 day minute) ≡ answer
 Holds (chooses test es answer) = choose test 1 nobody es ≡ answer
@@ -161,10 +167,16 @@ samples =
     -- P8 event with only element [17], date and minute 0: refusal 2, place 53. Field 20.
     ∷ eventReads 0 0 (2 ^ 17) (Refused (refusalAt 2 53 20))
     -- P9 event minute 1439 read; 1440 refusal 4, place 14. Field 1.
-    ∷ eventReads 0 1439 0 (Read (eventOf (0 ∷ 1439 ∷ [])))
+    ∷ eventReads 0 1439 0 (Read (eventOf (0 ∷ 1439 ∷ []) []))
     ∷ eventReads 0 1440 0 (Refused (refusalAt 4 14 1))
     -- P10 list of zeros but a last byte 01h: 5, place 231.
     ∷ listReads 4 (0x01 and 0 zeros) (noList (refusal 5 231))
+    -- 02, Q-7: the same bytes as an event: read, with bit 231 in its margin; written, the same bytes. An event of zeros ends at bit 53:
+    -- a one of its margin at bit 52 is in a field's place, one at bit 232 past the record.
+    ∷ bytesRead (0x01 and 0 zeros) (Read (eventOf [] (0 ∷ 0 ∷ 0 ∷ 2 ^ 24 ∷ [])))
+    ∷ marginWritten (0 ∷ 0 ∷ 0 ∷ 2 ^ 24 ∷ []) (replicate 29 255) (accepted (0x01 and 0 zeros))
+    ∷ marginWritten (2 ^ 11 ∷ 0 ∷ 0 ∷ 2 ^ 24 ∷ []) (replicate 29 255) (denied (refusal 7 52) (replicate 29 255))
+    ∷ marginWritten (2 ^ 10 ∷ 0 ∷ 0 ∷ 2 ^ 23 ∷ []) (replicate 29 255) (denied (refusal 7 232) (replicate 29 255))
     -- P11 gate, first byte 05h to 07h, rest equal: write 02h.
     ∷ finds (0x05 and 56 zeros) (0x07 and 56 zeros) (replicate 29 255) (accepted (0x02 and 56 zeros))
     -- P12 05h to 06h: 10, place 7.

@@ -7,6 +7,7 @@ use borrow.Author.Tests.{eq-eqb, ne-eqb, not-true, not-false}
 use Rattle.rows.specs.table.Contract.{contract42, contract50}
 use Rattle.rows.proofs.Running.{puts-append}
 use Rattle.contract.specs.Contract.{agrees}
+use Rattle.contract.proofs.Writing.{disagreed-ready}
 use borrow.Author.Needs.{needs}
 use Rattle.contract.proofs.put_fields.Statement.{statement}
 use Rattle.contract.proofs.put_fields.Tie as tie
@@ -15,6 +16,7 @@ returns : tie.Need-returns
 returns c =
     let no : agrees (c .before .before .before .before .before .before .before .before .args .kind) (c .before .before .before .before .before .before .before .before .args .c) ≡ false = sym (c .before .before .agrees .ensures) ∙ not-true _ (c .before .if1 .taken) in
     record {
+      ready = rw (c .disagreed .ensures) (disagreed-ready (c .before .before .before .before .before .put-head .ensures [] .ready));
       agreed = λ yes. let z : _≡_ {A = ℕ} 0 1 = cc in absurd (omega arith);
       opposed = λ same. record { draft = _; last = _; puts = c .before .before .before .before .before .put-head .ensures [] .puts; stops = c .disagreed .ensures };
     }
@@ -28,7 +30,8 @@ returns-2 c =
     let kind = eq-eqb _ _ (c .before .before .before .before .before .if2 .taken) in
     let yes : agrees (c .before .before .before .before .before .before .before .before .before .before .before .before .before .args .kind) (c .before .before .before .before .before .before .before .before .before .before .before .before .before .args .c) ≡ true = sym (c .before .before .before .before .before .before .before .agrees .ensures) ∙ not-false _ (c .before .before .before .before .before .before .if1 .left) in
     record {
-      agreed = λ same. rw (kind, ← c .before .before .before .before .carnet .ensures) (puts-append (c .before .before .before .before .before .before .before .before .before .before .put-head .ensures _ .puts) (c .before .before .put-carnet .ensures (c .before .before .before .before .before .before .before .before .before .before .before .before .before .args .c)));
+      ready = c .before .before .put-carnet .ensures (c .before .before .before .before .before .before .before .before .before .before .before .before .before .args .c) .ready;
+      agreed = λ same. rw (kind, ← c .before .before .before .before .carnet .ensures) (puts-append (c .before .before .before .before .before .before .before .before .before .before .put-head .ensures _ .puts) (c .before .before .put-carnet .ensures (c .before .before .before .before .before .before .before .before .before .before .before .before .before .args .c) .puts));
       opposed = λ no. let z : _≡_ {A = ℕ} 0 1 = cc in absurd (omega arith);
     }
 
@@ -41,7 +44,8 @@ returns-3 c =
     let kind = ne-eqb _ _ (c .before .before .before .before .before .if2 .left) in
     let yes : agrees (c .before .before .before .before .before .before .before .before .before .before .before .before .before .args .kind) (c .before .before .before .before .before .before .before .before .before .before .before .before .before .args .c) ≡ true = sym (c .before .before .before .before .before .before .before .agrees .ensures) ∙ not-false _ (c .before .before .before .before .before .before .if1 .left) in
     record {
-      agreed = λ same. rw (kind, ← c .before .before .before .before .urban .ensures) (puts-append (c .before .before .before .before .before .before .before .before .before .before .put-head .ensures _ .puts) (c .before .before .put-urban .ensures (c .before .before .before .before .before .before .before .before .before .before .before .before .before .args .c)));
+      ready = c .before .before .put-urban .ensures (c .before .before .before .before .before .before .before .before .before .before .before .before .before .args .c) .ready;
+      agreed = λ same. rw (kind, ← c .before .before .before .before .urban .ensures) (puts-append (c .before .before .before .before .before .before .before .before .before .before .put-head .ensures _ .puts) (c .before .before .put-urban .ensures (c .before .before .before .before .before .before .before .before .before .before .before .before .before .args .c) .puts));
       opposed = λ no. let z : _≡_ {A = ℕ} 0 1 = cc in absurd (omega arith);
     }
 

@@ -9,13 +9,16 @@ use Rattle.contract.proofs.put_limits.Tie as tie
 
 returns : tie.Need-returns
 unfolding data50
-returns c = λ n h.
-    c .before .before .before .before .before .before .before .before .before .before .before .before .before .before .before .before .before .before .number .ensures
-    ◂ c .before .before .before .before .before .before .before .before .before .before .before .before .before .before .number2 .ensures
-    ◂ c .before .before .before .before .before .before .before .before .before .before .at-most .ensures
-    ◂ c .before .before .before .before .before .before .number3 .ensures
-    ◂ c .before .before .number4 .ensures
-    ◂ given
+returns c = λ n h. record {
+  puts =
+      c .before .before .before .before .before .before .before .before .before .before .before .before .before .before .before .before .before .before .number .ensures
+      ◂ c .before .before .before .before .before .before .before .before .before .before .before .before .before .before .number2 .ensures
+      ◂ c .before .before .before .before .before .before .before .before .before .before .at-most .ensures
+      ◂ c .before .before .before .before .before .before .number3 .ensures
+      ◂ c .before .before .number4 .ensures
+      ◂ given;
+  ready = c .before .before .number4 .ensures .ready;
+}
 
 pub put-limits-spec : {M : Type 1} → statement M
 put-limits-spec =
@@ -26,5 +29,5 @@ put-limits-spec =
     (λ c κs. search lit≤)
     (λ c κs. search lit≤)
     (λ c κs. search lit≤)
-    (λ c. puts-long (returns c 0 (headOf [])))
+    (λ c. puts-long (returns c 0 (headOf []) .puts))
     returns)

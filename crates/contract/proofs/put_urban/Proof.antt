@@ -26,7 +26,10 @@ returns c = λ h.
     let zones = c .before .before .before .before .before .before .before .before .before .before .put-zones .ensures _ h in
     let stops = c .before .before .before .before .before .before .put-stops .ensures _ h in
     let limits = c .before .before .put-limits .ensures _ h in
-    puts-append (terms .puts) (puts-append (purse .puts) (puts-append (zones .puts) (puts-append (stops .puts) limits)))
+    record {
+      puts = puts-append (terms .puts) (puts-append (purse .puts) (puts-append (zones .puts) (puts-append (stops .puts) (limits .puts))));
+      ready = limits .ready;
+    }
 
 pub put-urban-spec : {M : Type 1} → statement M
 put-urban-spec =

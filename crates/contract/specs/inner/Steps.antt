@@ -5,6 +5,7 @@ use mathlib.Core.List.{List, []}
 use mathlib.Core.Path.{_≡_}
 use lib.Dec.{eqb}
 use Rattle.rows.specs.Row.{pick}
+use Rattle.rows.specs.inner.Step.{Drafted}
 use Rattle.rows.specs.inner.Line.{start, Puts}
 use Rattle.rows.specs.declared.Cursor.{Cursor}
 use Rattle.rows.specs.table.Contract.{head}
@@ -24,5 +25,6 @@ pub record PutHead (c : Contract) (xs : List ℕ) (d : Cursor) : Type 0 where
 
 -- The puts of a contract under a type.
 pub record PutOf (kind : ℕ) (c : Contract) (xs ys : List ℕ) (d : Cursor) : Type 0 where
+  pub ready : Drafted ys 232 d
   pub agreed : agrees kind c ≡ true → Puts 232 (numbersOf kind c) (tableOf kind) [] xs start (numbersOf kind c) ys d
   pub opposed : agrees kind c ≡ false → PutHead c xs d

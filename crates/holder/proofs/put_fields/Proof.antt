@@ -38,9 +38,13 @@ returns c =
     ◂ c .before .before .before .before .before .before .put-profile4 .ensures .number
     ◂ c .before .before .before .before .before .before .put-profile4 .ensures .date
     ◂ given in
-    puts-append (c .before .before .before .before .before .before .before .before .before .before .before .before .before .before .before .before .before .before .before .before .before .before .before .before .before .before .put-person .ensures .puts)
-    (puts-append (c .before .before .before .before .before .before .before .before .before .before .before .before .before .before .before .before .before .before .before .before .before .before .put-identity .ensures .puts)
-    (puts-append first (puts-append second (puts-append third (puts-append fourth (c .before .before .put-data .ensures .puts))))))
+    record {
+      puts =
+          puts-append (c .before .before .before .before .before .before .before .before .before .before .before .before .before .before .before .before .before .before .before .before .before .before .before .before .before .before .put-person .ensures .puts)
+          (puts-append (c .before .before .before .before .before .before .before .before .before .before .before .before .before .before .before .before .before .before .before .before .before .before .put-identity .ensures .puts)
+          (puts-append first (puts-append second (puts-append third (puts-append fourth (c .before .before .put-data .ensures .puts))))));
+      ready = c .before .before .put-data .ensures .ready;
+    }
 
 pub put-fields-spec : {M : Type 1} → statement M
 put-fields-spec =
@@ -57,5 +61,5 @@ put-fields-spec =
     (λ c κs. search needs)
     (λ c κs. search needs)
     (λ c κs. search needs)
-    (λ c. puts-long (returns c))
+    (λ c. puts-long (returns c .puts))
     returns)

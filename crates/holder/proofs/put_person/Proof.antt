@@ -10,7 +10,7 @@ use Rattle.holder.proofs.put_person.Tie as tie
 
 spelled : (s : tie.Start) → Spelled (s .args .h)
 spelled s =
-    record { surname = search needs; forename = search needs; «birth_place» = search needs; «birth_name» = search needs }
+    record { surname = search needs; forename = search needs; «birth_place» = search needs; «birth_name» = search needs; margin = search needs }
 
 returns : tie.Need-returns
 unfolding holder

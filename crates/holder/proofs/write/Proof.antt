@@ -10,7 +10,7 @@ use Rattle.holder.proofs.write.Tie as tie
 returns-2 : tie.Need-returns-2
 returns-2 c =
     let short : areaLength (length (c .before .before .before .args .bytes .now)) ≡ false = cc in
-    area-unwritten _ _ _ short
+    area-unwritten _ _ _ _ short
 
 pub write-spec : {M : Type 1} → statement M
 write-spec =

@@ -4,6 +4,7 @@ use mathlib.Core.List.{List, [], _∷_}
 use mathlib.Core.Path.{_≡_, refl}
 use native.Mathlib.Omega.{arith}
 use lib.ListN.{length, getD}
+use Rattle.rows.specs.Margin.{wordsOf}
 use Rattle.rows.specs.table.Environment.{environment}
 use Rattle.rows.proofs.RoundTrip.{read-slots}
 use Rattle.records.specs.Answer.{accepted}
@@ -14,9 +15,20 @@ use Rattle.records.specs.declared.environment.EnvironmentRead.the-varian
 use Rattle.records.proofs.Inverse.{View, from-all, record-read-write, record-write-read}
 use Rattle.records.proofs.Coming.{ComesTo, unwritten, comes-within, record-comes, record-write-comes}
 
-view : View environment 232 numbersOf environmentOf
+-- The words of its margin.
+abbrev wordsIn : Environment → List ℕ
+wordsIn e = wordsOf (e .margin)
+
+view : View environment 232 4 numbersOf wordsIn environmentOf
 unfolding environment
-view = record { sized = λ e. refl; back = λ e. refl; forth = λ bs long h. from-all 10 _ (read-slots environment bs h) }
+view =
+    record {
+      sized = λ e. refl;
+      margins = λ e. refl;
+      back = λ e. refl;
+      forth = λ bs margin long h. from-all 10 _ (read-slots environment bs h);
+      kept = λ vals margin long. from-all 4 margin long;
+    }
 
 same : (a b : Environment) → Read a ≡ Read b → a ≡ b
 same a b h = cc
@@ -29,16 +41,16 @@ pub environment-read-write : (bytes onto : List ℕ) (e : Environment) → ((i :
     → environmentWritten onto e ≡ accepted bytes
 environment-read-write bytes onto e small long h = record-read-write Read Refused same apart view bytes onto e small long h
 
-pub environment-write-read : (before after : List ℕ) (e : Environment)
+pub environment-write-read : (before after : List ℕ) (e : Environment) → ((i : ℕ) → getD (wordsOf (e .margin)) i 0 < 2 ^ 64)
     → environmentWritten before e ≡ accepted after
     → environmentRead after ≡ Read e
-environment-write-read before after e h = record-write-read Read Refused same apart view before after e h
+environment-write-read before after e small h = record-write-read Read Refused same apart view before after e small h
 
 -- The refusals of a reading and of a writing.
-pub environment-comes : (bytes : List ℕ) → ComesTo Read Refused (1 ∷ 3 ∷ 5 ∷ []) (environmentRead bytes)
+pub environment-comes : (bytes : List ℕ) → ComesTo Read Refused (1 ∷ 3 ∷ []) (environmentRead bytes)
 unfolding environment
 environment-comes bytes = comes-within (record-comes environmentOf environment bytes) refl
 
 pub environment-write-comes : (before : List ℕ) (e : Environment) → ComesTo accepted (unwritten before) (1 ∷ 3 ∷ 7 ∷ []) (environmentWritten before e)
 unfolding environment
-environment-write-comes before e = comes-within (record-write-comes environment (numbersOf e) before) refl
+environment-write-comes before e = comes-within (record-write-comes environment (numbersOf e) (wordsOf (e .margin)) before) refl

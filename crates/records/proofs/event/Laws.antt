@@ -6,7 +6,8 @@ use mathlib.Core.Path.{_≡_, refl}
 use native.Mathlib.Omega.{arith}
 use lib.ListN.{length, getD, take, drop}
 use Rattle.rows.specs.Row.{bit}
-use Rattle.rows.specs.Walk.{read, done}
+use Rattle.rows.specs.Margin.{wordsOf}
+use Rattle.rows.specs.Walk.{read, done, Content}
 use Rattle.rows.specs.table.Event.{event}
 use Rattle.rows.specs.declared.Rule.the-variants.{Any}
 use Rattle.rows.proofs.RoundTrip.{read-slots}
@@ -20,15 +21,27 @@ use Rattle.records.proofs.Inverse.{View, from-all, record-read-write, r
 use Rattle.records.proofs.Coming.{ComesTo, unwritten, comes-within, record-comes, record-write-comes}
 
 -- A record that was read has no element [17], so that its slot is zero.
-named : (bs : List Bool) {vals : List ℕ} {end : ℕ} → length bs ≡ 232 → read event bs ≡ done vals end → numbersOf (eventOf vals) ≡ vals
+named : (bs : List Bool) (margin : List ℕ) {c : Content} {end : ℕ} → length bs ≡ 232 → read event bs ≡ done c end
+    → numbersOf (eventOf (c .numbers) margin) ≡ c .numbers
 unfolding event
-named bs {vals} long h =
-    let none : getD vals 20 0 ≡ 0 = read-wide 240 (bit 2 17) Any (drop 21 event) (take 20 event) bs (omega arith) h in
-    rw none at (from-all 36 vals (read-slots event bs h))
+named bs margin {c} long h =
+    let none : getD (c .numbers) 20 0 ≡ 0 = read-wide 240 (bit 2 17) Any (drop 21 event) (take 20 event) bs (omega arith) h in
+    rw none at (from-all 36 (c .numbers) (read-slots event bs h))
 
-view : View event 232 numbersOf eventOf
+-- The words of its margin.
+abbrev wordsIn : Event → List ℕ
+wordsIn e = wordsOf (e .margin)
+
+view : View event 232 4 numbersOf wordsIn eventOf
 unfolding event
-view = record { sized = λ e. refl; back = λ e. refl; forth = named }
+view =
+    record {
+      sized = λ e. refl;
+      margins = λ e. refl;
+      back = λ e. refl;
+      forth = named;
+      kept = λ vals margin long. from-all 4 margin long;
+    }
 
 same : (a b : Event) → Read a ≡ Read b → a ≡ b
 same a b h = cc
@@ -41,16 +54,16 @@ pub event-read-write : (bytes onto : List ℕ) (e : Event) → ((i : ℕ) → ge
     → eventWritten onto e ≡ accepted bytes
 event-read-write bytes onto e small long h = record-read-write Read Refused same apart view bytes onto e small long h
 
-pub event-write-read : (before after : List ℕ) (e : Event)
+pub event-write-read : (before after : List ℕ) (e : Event) → ((i : ℕ) → getD (wordsOf (e .margin)) i 0 < 2 ^ 64)
     → eventWritten before e ≡ accepted after
     → eventRead after ≡ Read e
-event-write-read before after e h = record-write-read Read Refused same apart view before after e h
+event-write-read before after e small h = record-write-read Read Refused same apart view before after e small h
 
 -- The refusals of a reading and of a writing.
-pub event-comes : (bytes : List ℕ) → ComesTo Read Refused (1 ∷ 2 ∷ 4 ∷ 5 ∷ []) (eventRead bytes)
+pub event-comes : (bytes : List ℕ) → ComesTo Read Refused (1 ∷ 2 ∷ 4 ∷ []) (eventRead bytes)
 unfolding event
 event-comes bytes = comes-within (record-comes eventOf event bytes) refl
 
 pub event-write-comes : (before : List ℕ) (e : Event) → ComesTo accepted (unwritten before) (1 ∷ 2 ∷ 4 ∷ 7 ∷ []) (eventWritten before e)
 unfolding event
-event-write-comes before e = comes-within (record-write-comes event (numbersOf e) before) refl
+event-write-comes before e = comes-within (record-write-comes event (numbersOf e) (wordsOf (e .margin)) before) refl

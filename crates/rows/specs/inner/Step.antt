@@ -5,10 +5,10 @@ use mathlib.Core.Bool.{Bool, false}
 use mathlib.Core.Path.{_≡_}
 use lib.Dec.{eqb}
 use lib.ListN.{length, take, drop, replicate}
-use Rattle.bits.specs.Bits.{cut}
+use Rattle.bits.specs.Bits.{cut, cleared}
 use Rattle.bits.specs.inner.Words.{numberAt}
 use Rattle.rows.specs.Row.{Row, Cond, pick, told}
-use Rattle.rows.specs.Walk.{Outcome, done, refused, andThen, Source, walk, fault, there, boxesAt, slotsOf, laidOn, exceeds, ending}
+use Rattle.rows.specs.Walk.{Outcome, done, refused, andThen, Source, walk, fault, there, boxesAt, slotsOf, laidOn, exceeds, blank, stray}
 use Rattle.rows.specs.declared.Cursor.{Cursor}
 use Rattle.rows.specs.declared.When.{When}
 use Rattle.rows.specs.declared.Rule.{Rule}
@@ -63,14 +63,15 @@ pub record Took (words : List ℕ) (end : ℕ) (c : Cursor) (t : When) (ws : Lis
       → resume end (boxesAt bs) (record { boxes = ws; cond = k; rule = rule } ∷ rs) seen c
       ≡ resume end (boxesAt bs) rs (seen ++ vs) d
 
--- What the end of a reading gives: the answer, with 5 at the first one that is left.
+-- What the end of a list's reading gives: the answer, with 5 at the first one that is left.
 pub record Ended (words : List ℕ) (end : ℕ) (c d : Cursor) : Type 0 where
   pub says :
       (bs : List Bool)
       → length bs ≡ end
       → words ≡ cut 32 64 (length words) bs
       → (seen : List ℕ)
-      → andThen (resume end (boxesAt bs) [] seen c) (ending bs) ≡ pick (eqb (d .why) 0) (done seen (d .at)) (refused (d .why) (d .at) (d .field - 1))
+      → andThen (resume end (boxesAt bs) [] seen c) (λ vals at. blank 5 (cleared at bs) vals at)
+      ≡ pick (eqb (d .why) 0) (done seen (d .at)) (refused (d .why) (d .at) (d .field - 1))
 
 -- n numbers of w bits from bit at on.
 abbrev pub lettersAt : List ℕ → ℕ → ℕ → ℕ → List ℕ
@@ -124,6 +125,20 @@ LaidAll xs ys at w letters =
     → length out ≡ at
     → xs ≡ cut 32 32 (length xs) out
     → ys ≡ cut 32 32 (length xs) (laidOn out (replicate (length letters) w) letters)
+
+-- What the put of a margin gives, behind the last field: the answer, with 7 at the first one that is out of place; and where there is
+-- none, the draft has the margin behind its bits.
+pub record Kept (xs ys : List ℕ) (room : ℕ) (c : Cursor) (m : List Bool) (d : Cursor) : Type 0 where
+  pub long : length ys ≡ length xs
+  pub says :
+      (bits : List Bool)
+      → blank 7 (stray room (c .at) m) bits (c .at) ≡ pick (eqb (d .why) 0) (done bits (d .at)) (refused (d .why) (d .at) (d .field - 1))
+  pub laid :
+      d .why ≡ 0
+      → (out : List Bool)
+      → length out ≡ c .at
+      → xs ≡ cut 32 32 (length xs) out
+      → ys ≡ cut 32 32 (length xs) (out ++ take (room - c .at) (drop (c .at) m))
 
 -- What the end of a writing gives: the bytes of the draft's bits, zeros behind them; after a refusal, the bytes as they were.
 pub record Packed (draft : List ℕ) (c : Cursor) (before after : List ℕ) : Type 0 where

@@ -9,17 +9,21 @@ use Rattle.records.proofs.environment.put_fields.Tie as tie
 returns : tie.Need-returns
 unfolding environment
 returns c =
-    c .before .before .before .before .before .before .before .before .before .before .before .before .before .before .before .before .before .before .before .before .before .before .before .before .before .before .before .before .before .before .before .before .before .before .before .before .before .before .number .ensures
-    ◂ c .before .before .before .before .before .before .before .before .before .before .before .before .before .before .before .before .before .before .before .before .before .before .before .before .before .before .before .before .before .before .before .before .before .before .number2 .ensures
-    ◂ c .before .before .before .before .before .before .before .before .before .before .before .before .before .before .before .before .before .before .before .before .before .before .before .before .before .before .before .before .before .before .number3 .ensures
-    ◂ c .before .before .before .before .before .before .before .before .before .before .before .before .before .before .before .before .before .before .before .before .before .before .before .before .before .before .number4 .ensures
-    ◂ c .before .before .before .before .before .before .before .before .before .before .before .before .before .before .before .before .before .before .before .before .before .before .number5 .ensures
-    ◂ c .before .before .before .before .before .before .before .before .before .before .before .before .before .before .before .before .before .before .number6 .ensures
-    ◂ c .before .before .before .before .before .before .before .before .before .before .before .before .before .before .number7 .ensures
-    ◂ c .before .before .before .before .before .before .before .before .before .before .number8 .ensures
-    ◂ c .before .before .before .before .before .before .env-data .ensures
-    ◂ c .before .before .number9 .ensures
-    ◂ given
+    record {
+      puts =
+          c .before .before .before .before .before .before .before .before .before .before .before .before .before .before .before .before .before .before .before .before .before .before .before .before .before .before .before .before .before .before .before .before .before .before .before .before .before .before .number .ensures
+          ◂ c .before .before .before .before .before .before .before .before .before .before .before .before .before .before .before .before .before .before .before .before .before .before .before .before .before .before .before .before .before .before .before .before .before .before .number2 .ensures
+          ◂ c .before .before .before .before .before .before .before .before .before .before .before .before .before .before .before .before .before .before .before .before .before .before .before .before .before .before .before .before .before .before .number3 .ensures
+          ◂ c .before .before .before .before .before .before .before .before .before .before .before .before .before .before .before .before .before .before .before .before .before .before .before .before .before .before .number4 .ensures
+          ◂ c .before .before .before .before .before .before .before .before .before .before .before .before .before .before .before .before .before .before .before .before .before .before .number5 .ensures
+          ◂ c .before .before .before .before .before .before .before .before .before .before .before .before .before .before .before .before .before .before .number6 .ensures
+          ◂ c .before .before .before .before .before .before .before .before .before .before .before .before .before .before .number7 .ensures
+          ◂ c .before .before .before .before .before .before .before .before .before .before .number8 .ensures
+          ◂ c .before .before .before .before .before .before .env-data .ensures
+          ◂ c .before .before .number9 .ensures
+          ◂ given;
+      ready = c .before .before .number9 .ensures .ready;
+    }
 
 pub put-fields-spec : {M : Type 1} → statement M
 put-fields-spec =
@@ -35,5 +39,5 @@ put-fields-spec =
     (λ c κs. search lit≤)
     (λ c κs. search lit≤)
     (λ c κs. search lit≤)
-    (λ c. puts-long (returns c))
+    (λ c. puts-long (returns c .puts))
     returns)

@@ -7,8 +7,12 @@ use Rattle.records.proofs.event.put_fields.Tie as tie
 returns : tie.Need-returns
 unfolding event
 returns c =
-    puts-append (c .before .before .before .before .before .before .before .before .before .before .put-occasion .ensures .puts)
-    (puts-append (c .before .before .before .before .before .before .put-journey .ensures .puts) (c .before .before .put-account .ensures .puts))
+    record {
+      puts =
+          puts-append (c .before .before .before .before .before .before .before .before .before .before .put-occasion .ensures .puts)
+          (puts-append (c .before .before .before .before .before .before .put-journey .ensures .puts) (c .before .before .put-account .ensures .puts));
+      ready = c .before .before .put-account .ensures .ready;
+    }
 
 pub put-fields-spec : {M : Type 1} → statement M
 put-fields-spec =

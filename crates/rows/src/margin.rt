@@ -1,0 +1,132 @@
+// The margin: the bits after the last field, in the record's own coordinates, with zeros in every field's place.
+ghost use mathlib.Core.Path.{_≡_};
+ghost use mathlib.Core.Bool.{Bool};
+ghost use mathlib.Core.List.{List, _++_};
+ghost use Prim.Native.Nat.{_+_, _*_, _-_, _/_, _≤_, _<_};
+ghost use lib.Dec.{eqb};
+ghost use lib.ListN.{length, take, drop, replicate};
+ghost use Rattle.bits.specs.Bits.{spread, cut, cleared, leading};
+ghost use Rattle.rows.specs.Margin.{wordsOf};
+ghost use Rattle.rows.specs.inner.Step.{Drafted, Kept};
+use crate::Cursor;
+
+// The margin of a record, in words of 64 bits that are named by their first bit. The last holds 24 bits that no record has.
+pub struct Margin {
+    pub at0: u64,
+    pub at64: u64,
+    pub at128: u64,
+    pub at192: u64,
+}
+
+impl Margin {
+    // Every bit zero.
+    pub const NONE: Margin = Margin {
+        at0: 0,
+        at64: 0,
+        at128: 0,
+        at192: 0,
+    };
+
+    fn is_none(self) -> bool
+        ensures { λ r. ⌜ r ≡ eqb (leading (spread 64 (wordsOf self))) 256 ⌝ }
+    {
+        self.at0 == 0 && self.at64 == 0 && self.at128 == 0 && self.at192 == 0
+    }
+}
+
+// The margin of a record whose last field ends at bit at.
+pub fn take(words: &[u64], at: u32) -> Margin
+    requires { ⌜ length (now words) ≡ 8 ⌝ }
+    ensures { λ r. ⌜ ((bs : List Bool) → now (words .entry) ≡ cut 32 64 8 bs → wordsOf r ≡ cut 64 64 4 (cleared at bs)) ⌝ }
+{
+    Margin {
+        at0: bits::cleared(words[0], 0, at),
+        at64: bits::cleared(words[2], 64, at),
+        at128: bits::cleared(words[4], 128, at),
+        at192: bits::cleared(words[6], 192, at),
+    }
+}
+
+// The margin of an area whose last field ends at bit at, into words lent as zeros; where nothing stands there they stay so.
+pub fn take_area(words: &[u64], end: u32, at: u32, margin: &mut [u64])
+    requires { ⌜ (at ≤ end) × ((end / 32 < length (now words)) × ((end < 65536) × ((2 * length (now margin) ≤ length (now words)) × (length (now words) < 65536)))) ⌝ }
+    requires { ⌜ now margin ≡ replicate (length (now margin)) 0 ⌝ }
+    ensures { λ r. ⌜ ((bs : List Bool) → length bs ≡ end → now (words .entry) ≡ cut 32 64 (length (now (words .entry))) bs
+        → now (margin .exit) ≡ cut 64 64 (length (now (margin .entry))) (cleared at bs)) ⌝ }
+{
+    if bits::next_one(words, end, at) < end {
+        bits::rest(words, at, margin);
+    }
+}
+
+// Puts the margin of a record behind its last field.
+pub fn put(draft: &mut [u64], room: u32, c: Cursor, margin: Margin) -> Cursor
+    requires { ⌜ Drafted (now draft) room c × ((c .why ≡ 0) × (room ≤ 256)) ⌝ }
+    ensures { λ d. ⌜ Kept (now (draft .entry)) (now (draft .exit)) room c (spread 64 (wordsOf margin)) d ⌝ }
+{
+    if margin.is_none() {
+        return c;
+    }
+    let whole = [margin.at0, margin.at64, margin.at128, margin.at192];
+    let mut words = [0u64; 9];
+    put_words(draft, room, c, &whole, &mut words)
+}
+
+// Puts the margin of an area behind its last field.
+pub fn put_area(draft: &mut [u64], room: u32, c: Cursor, whole: &[u64]) -> Cursor
+    requires { ⌜ Drafted (now draft) room c × ((c .why ≡ 0) × ((room ≤ 960) × (length (now whole) ≡ 15))) ⌝ }
+    ensures { λ d. ⌜ Kept (now (draft .entry)) (now (draft .exit)) room c (spread 64 (now (whole .entry))) d ⌝ }
+{
+    if bits::all_zero(whole) {
+        return c;
+    }
+    let mut words = [0u64; 31];
+    put_words(draft, room, c, whole, &mut words)
+}
+
+// Puts the bits of whole words behind the last field: 7 at the first one that is in a field's place or past the room. The lent words are
+// for the same bits, 32 bits apart: two for each whole word, and one more.
+fn put_words(draft: &mut [u64], room: u32, c: Cursor, whole: &[u64], words: &mut [u64]) -> Cursor
+    requires { ⌜ Drafted (now draft) room c × ((c .why ≡ 0) × ((room ≤ 64 * length (now whole)) × ((length (now whole) < 1024) × (length (now words) ≡ 2 * length (now whole) + 1)))) ⌝ }
+    ensures { λ d. ⌜ Kept (now (draft .entry)) (now (draft .exit)) room c (spread 64 (now (whole .entry))) d ⌝ }
+{
+    bits::words_of(whole, words);
+    let end = 64 * whole.len() as u32;
+    let first = bits::next_one(words, end, 0);
+    if first < c.at {
+        return astray(first);
+    }
+    let past = bits::next_one(words, end, room);
+    if past < end {
+        return astray(past);
+    }
+    lay(draft, words, c.at, room);
+    c
+}
+
+// A one that is out of place, which is no field's fault.
+fn astray(place: u32) -> Cursor
+    ensures { λ d. ⌜ d ≡ record { at = place; why = 7; field = 0; number = 0 } ⌝ }
+{
+    Cursor {
+        at: place,
+        why: 7,
+        field: 0,
+        number: 0,
+    }
+}
+
+// Lays the bits from bit at up to the room behind those of a draft, 32 at a time.
+fn lay(draft: &mut [u64], words: &[u64], at: u32, room: u32)
+    requires { ⌜ (at ≤ room) × ((room / 32 + 1 < length (now draft)) × ((room / 32 < length (now words)) × (room < 65536))) ⌝ }
+    ensures { λ r. ⌜ ((out m : List Bool) → length out ≡ at → now (draft .entry) ≡ cut 32 32 (length (now (draft .entry))) out
+        → now (words .entry) ≡ cut 32 64 (length (now (words .entry))) m → room ≤ length m
+        → now (draft .exit) ≡ cut 32 32 (length (now (draft .entry))) (out ++ take (room - at) (drop at m))) ⌝ }
+{
+    let mut place = at;
+    while place < room {
+        let w = if room - place < 32 { room - place } else { 32 };
+        bits::lay(draft, place, w, bits::number(words, place, w));
+        place += w;
+    }
+}
