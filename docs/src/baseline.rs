@@ -16,8 +16,12 @@ impl Digest {
     }
 
     fn add<const COUNT: usize>(&mut self, numbers: [u32; COUNT]) {
-        for number in numbers {
-            self.0 = self.0.wrapping_mul(33).wrapping_add(u64::from(number));
+        self.add_words(numbers.map(u64::from));
+    }
+
+    fn add_words<const COUNT: usize>(&mut self, words: [u64; COUNT]) {
+        for word in words {
+            self.0 = self.0.wrapping_mul(33).wrapping_add(word);
         }
     }
 }
@@ -51,6 +55,7 @@ fn contract_digest(contract: &Contract) -> u64 {
         Data::Carnet(data) => add_data_42(&mut digest, data),
         Data::Urban(data) => add_data_50(&mut digest, data),
     }
+    digest.add_words(contract.margin);
     digest.0
 }
 

@@ -5,6 +5,7 @@
 pub const RECORD: usize = 29;
 const RECORD_BITS: u32 = 232;
 const POSITIONS: usize = 8;
+const MARGIN_WORDS: usize = 4;
 const LAST_MINUTE: u32 = 1439;
 const UNDEFINED_PRIORITY: u32 = 13;
 
@@ -71,7 +72,16 @@ impl Walk<'_> {
         Ok(minute)
     }
 
-    /// After the last field every bit is zero to the end.
+    /// What stands after the last field, where it stands: zeros in every field's place.
+    fn margin(&self) -> [u64; MARGIN_WORDS] {
+        std::array::from_fn(|index| {
+            let word = u64::from_be_bytes(self.bytes[8 * index..8 * index + 8].try_into().unwrap());
+            let before = self.place.saturating_sub(64 * index as u32);
+            word & u64::MAX.checked_shr(before).unwrap_or(0)
+        })
+    }
+
+    /// After the last field of a list every bit is zero to the end.
     fn check_rest(&self) -> Result<(), Refusal> {
         let mut place = self.place;
         while place < RECORD_BITS {
@@ -172,6 +182,7 @@ pub struct Contract {
     pub end: u32,
     pub status: u32,
     pub data: Data,
+    pub margin: [u64; MARGIN_WORDS],
 }
 
 pub struct Data42 {
@@ -234,7 +245,7 @@ pub fn read_contract(record: &[u8; RECORD], kind: Kind) -> Result<Contract, Refu
             Kind::Urban => Data::Urban(read_data_50(&mut walk)?),
         };
     }
-    walk.check_rest()?;
+    contract.margin = walk.margin();
     Ok(contract)
 }
 
@@ -248,7 +259,8 @@ fn read_head(walk: &mut Walk) -> Result<Contract, Refusal> {
     let start = walk.field_if(has(validity, 0), 6, 14)?;
     let end = walk.field_if(has(validity, 1), 7, 14)?;
     let status = walk.field_if(has(bitmap, 5), 8, 8)?;
-    Ok(Contract { bitmap, provider, tariff, serial, class, validity, start, end, status, data: Data::Nothing })
+    let (data, margin) = (Data::Nothing, [0; MARGIN_WORDS]);
+    Ok(Contract { bitmap, provider, tariff, serial, class, validity, start, end, status, data, margin })
 }
 
 fn read_data_42(walk: &mut Walk) -> Result<Data42, Refusal> {

@@ -1,7 +1,7 @@
 """Makes the records that ./bench hands to the measuring programs: from a fixed seed, so the same on every computer.
 
 A unit is one byte that says what it is, and then the bytes that the operation takes. The layouts come from
-`vectors/model.py` and are drawn by `vectors/draw.py`. A tenth of all records is refused.
+`vectors/model.py` and are drawn by `vectors/draw.py`. A tenth of all records is refused, or has a margin.
 """
 
 import sys
@@ -19,7 +19,8 @@ MIXED = 100_000                  # records that both programs read
 FEW = 200                        # units of each other operation
 POSITIONS, SPECIALS = 8, 4       # N and S of every card here; C is 4
 LIST, CONTRACT_42, CONTRACT_50 = READ_BY_BOTH = range(3)
-READERS = range(7)               # those three, the special event list, Event, Environment and Holder
+NAMES = ("list", "42h", "50h", "special list", "Event", "Environment", "Holder")
+KEEP_A_MARGIN = (1, 2, 4, 5, 6)  # the kinds whose values keep what stands after the last field
 REWRITE = 7                      # a reader's number and 7: read, then written again
 SELECT, LOAD = 14, 15
 TYPE = {CONTRACT_42: 0x42, CONTRACT_50: 0x50}
@@ -44,15 +45,23 @@ def mixed():
 def others():
     """The name and the units of each further measurement; only the library's own program understands these."""
     random = Random(SEED)
-    for kind, name in enumerate(("list", "42h", "50h", "special list", "Event", "Environment", "Holder")):
+    for kind, name in enumerate(NAMES):
         units = [unit(random, kind) for _ in range(FEW)]
         if kind not in READ_BY_BOTH:
             yield f"{name} read", units
-        yield f"{name} read and written", [bytes([kind + REWRITE]) + lent[1:] for lent in units]
+        yield f"{name} read and written", rewritten(units)
     for entries in range(1, POSITIONS + 1):
         yield f"select, entries {entries}", [select_unit(random, entries) for _ in range(FEW)]
     for events in range(16):
         yield f"load, journal {events}", [load_unit(random, events) for _ in range(FEW)]
+    for kind in KEEP_A_MARGIN:
+        units = [bytes([kind]) + one_after(random, kind) for _ in range(FEW)]
+        yield f"{NAMES[kind]}, margin, read", units
+        yield f"{NAMES[kind]}, margin, read and written", rewritten(units)
+
+
+def rewritten(units):
+    return [bytes([unit[0] + REWRITE]) + unit[1:] for unit in units]
 
 
 def unit(random, kind):
@@ -114,21 +123,25 @@ def packed(bits, size):
     return int(bits[:8 * size].ljust(8 * size, "0"), 2).to_bytes(size, "big")
 
 
+def drawn_bits(random, kind, fixed):
+    return draw(random, LAYOUT[kind], {**fixed, "margin": ""}).bits
+
+
 def drawn(random, kind, fixed):
-    return packed(draw(random, LAYOUT[kind], fixed).bits, LAYOUT[kind].size)
+    return packed(drawn_bits(random, kind, fixed), LAYOUT[kind].size)
 
 
 def legal(random, kind):
     return drawn(random, kind, LEGAL[kind](random))
 
 
-# ---------------------------------------------------------------- Refused records
+# ---------------------------------------------------------------- Refused records, and those with a margin
 
 def one_after(random, kind):
-    """5: a one after the last field."""
+    """A one after the last field: 5 for a list, a margin for the others."""
     size = 8 * LAYOUT[kind].size
     while True:
-        bits = draw(random, LAYOUT[kind], LEGAL[kind](random)).bits
+        bits = drawn_bits(random, kind, LEGAL[kind](random))
         if len(bits) < size:
             return packed(bits + "0" * random.randrange(size - len(bits)) + "1", size // 8)
 
@@ -181,7 +194,7 @@ def broken_rule(fixed_of, highest, bitmaps):
 
 LATE_MINUTES = range(1440, 2048)
 WITH_DATA = range(64, 128)       # bitmaps of a head whose bit [6] is set
-FAULTS = [
+FAULTS = [                       # `one_after` is none of the kinds that keep a margin
     [one_after, undefined_priority, wrong_number(count=range(9, 16)), overfull_list,
      broken_rule(list_entries, POSITIONS, (6, 2, 4, 0))],
     [one_after, wrong_number(bitmap=WITH_DATA, sale_minute=LATE_MINUTES)],

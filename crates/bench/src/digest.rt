@@ -8,12 +8,17 @@ use lists::list::ContractList;
 use lists::list::Entry;
 use lists::list::ListRead;
 use records::Refusal;
+use rows::margin::Margin;
 use std::num::wrapping_add_u64;
 
-// 33 times the number, and v more, modulo 2^64.
 fn with(d: u64, v: u32) -> u64 {
+    with_word(d, v as u64)
+}
+
+// 33 times the digest, and v more, modulo 2^64.
+fn with_word(d: u64, v: u64) -> u64 {
     let d = wrapping_add_u64(d << 5, d);
-    wrapping_add_u64(d, v as u64)
+    wrapping_add_u64(d, v)
 }
 
 fn of_refusal(r: Refusal) -> u64 {
@@ -73,11 +78,23 @@ fn with_contract(d: u64, c: Contract) -> u64 {
     let d = with(d, c.end_date);
     let d = with(d, c.status);
     let data = c.data;
+    let margin = c.margin;
+    with_margin(with_data(d, data), margin)
+}
+
+fn with_data(d: u64, data: Data) -> u64 {
     match data {
         Data::Nothing => with(d, 0),
         Data::Carnet(data) => with_carnet(with(d, Contract::CARNET), data),
         Data::Urban(data) => with_urban(with(d, Contract::URBAN), data),
     }
+}
+
+fn with_margin(d: u64, m: Margin) -> u64 {
+    let d = with_word(d, m.at0);
+    let d = with_word(d, m.at64);
+    let d = with_word(d, m.at128);
+    with_word(d, m.at192)
 }
 
 fn with_carnet(d: u64, c: Data42) -> u64 {

@@ -1,5 +1,6 @@
 // contract.read and contract.write.
 use crate::answer;
+use crate::margins;
 use crate::scan;
 use crate::scan::Scan;
 use contract::Contract;
@@ -31,8 +32,14 @@ pub fn read(line: &[u8], from: Scan, record: &[u8], out: &mut [u8]) -> usize {
 }
 
 fn answer_contract(out: &mut [u8], c: Contract) -> usize {
-    let end = answer::accepted(out, &head_numbers(c));
+    let head = answer::accepted(out, &head_numbers(c));
     let data = c.data;
+    let margin = c.margin;
+    let end = answer_data(out, head, data);
+    margins::answer(out, end, margin)
+}
+
+fn answer_data(out: &mut [u8], end: usize, data: Data) -> usize {
     match data {
         Data::Nothing => answer::number(out, end, 0),
         Data::Carnet(d) => answer::numbers(out, end, &carnet_numbers(d)),
@@ -133,7 +140,9 @@ fn take_contract(line: &[u8], from: Scan) -> Given {
     let status = scan::number(line, end_date);
     let given = take_data(line, status);
     let data = given.value;
-    let last = given.last;
+    let rest = margins::take(line, given.last);
+    let margin = rest.value;
+    let last = rest.last;
     Given {
         value: Contract {
             bitmap: bitmap.number,
@@ -146,6 +155,7 @@ fn take_contract(line: &[u8], from: Scan) -> Given {
             end_date: end_date.number,
             status: status.number,
             data,
+            margin,
         },
         last,
     }

@@ -1,5 +1,6 @@
 // env.read and env.write.
 use crate::answer;
+use crate::margins;
 use crate::scan;
 use crate::scan::Scan;
 use records::environment;
@@ -17,7 +18,11 @@ pub fn read(line: &[u8], from: Scan, record: &[u8], out: &mut [u8]) -> usize {
     }
     let read = environment::read(record);
     match read {
-        EnvironmentRead::Read(value) => answer::accepted(out, &numbers(value)),
+        EnvironmentRead::Read(value) => {
+            let end = answer::accepted(out, &numbers(value));
+            let margin = value.margin;
+            margins::answer(out, end, margin)
+        }
         EnvironmentRead::Refused(refusal) => answer::refusal(out, refusal),
     }
 }
@@ -57,6 +62,9 @@ fn take_environment(line: &[u8], from: Scan) -> Given {
     let select_list = scan::number(line, authenticator);
     let data_bitmap = scan::number(line, select_list);
     let card_status = scan::number(line, data_bitmap);
+    let rest = margins::take(line, card_status);
+    let margin = rest.value;
+    let last = rest.last;
     Given {
         value: Environment {
             version: version.number,
@@ -69,7 +77,8 @@ fn take_environment(line: &[u8], from: Scan) -> Given {
             select_list: select_list.number,
             data_bitmap: data_bitmap.number,
             card_status: card_status.number,
+            margin,
         },
-        last: card_status,
+        last,
     }
 }

@@ -1,5 +1,6 @@
 // event.read and event.write.
 use crate::answer;
+use crate::margins;
 use crate::scan;
 use crate::scan::Scan;
 use records::event;
@@ -17,7 +18,11 @@ pub fn read(line: &[u8], from: Scan, record: &[u8], out: &mut [u8]) -> usize {
     }
     let read = event::read(record);
     match read {
-        EventRead::Read(value) => answer::accepted(out, &numbers(value)),
+        EventRead::Read(value) => {
+            let end = answer::accepted(out, &numbers(value));
+            let margin = value.margin;
+            margins::answer(out, end, margin)
+        }
         EventRead::Refused(refusal) => answer::refusal(out, refusal),
     }
 }
@@ -107,6 +112,9 @@ fn take_event(line: &[u8], from: Scan) -> Given {
     let simulation = scan::number(line, first_minute);
     let trip = scan::number(line, simulation);
     let direction = scan::number(line, trip);
+    let rest = margins::take(line, direction);
+    let margin = rest.value;
+    let last = rest.last;
     Given {
         value: Event {
             date: date.number,
@@ -144,7 +152,8 @@ fn take_event(line: &[u8], from: Scan) -> Given {
             simulation: simulation.number,
             trip: trip.number,
             direction: direction.number,
+            margin,
         },
-        last: direction,
+        last,
     }
 }

@@ -1,5 +1,6 @@
 // holder.read and holder.write.
 use crate::answer;
+use crate::margins;
 use crate::scan;
 use crate::scan::Scan;
 use holder::Holder;
@@ -34,7 +35,8 @@ fn answer_holder(out: &mut [u8], end: usize, h: Holder) -> usize {
     let birth = answer_birth(out, name, h);
     let identity = answer::numbers(out, birth, &[h.id, h.country, h.company, h.profile_count]);
     let profiles = answer_profiles(out, identity, h);
-    answer::numbers(out, profiles, &data_numbers(h))
+    let end = answer::numbers(out, profiles, &data_numbers(h));
+    answer_margin(out, end, h)
 }
 
 fn answer_name(out: &mut [u8], end: usize, h: Holder) -> usize {
@@ -62,6 +64,13 @@ fn answer_profiles(out: &mut [u8], end: usize, h: Holder) -> usize {
         i += 1;
     }
     last
+}
+
+fn answer_margin(out: &mut [u8], end: usize, h: Holder) -> usize {
+    let margin = h.margin;
+    let mut bytes = [0u8; margins::AREA_BYTES];
+    margins::bytes_of(&margin, &mut bytes);
+    answer::bytes(out, end, &bytes)
 }
 
 fn data_numbers(h: Holder) -> [u32; 13] {
@@ -125,6 +134,8 @@ fn take_holder(line: &[u8], from: Scan) -> Given {
     let start2 = scan::number(line, start1);
     let start3 = scan::number(line, start2);
     let start4 = scan::number(line, start3);
+    let mut margin = [0u64; 15];
+    let last = margins::take_words(line, start4, margins::AREA_BYTES, &mut margin);
     let p0 = first.value;
     let p1 = second.value;
     let p2 = third.value;
@@ -157,8 +168,9 @@ fn take_holder(line: &[u8], from: Scan) -> Given {
             start2: start2.number,
             start3: start3.number,
             start4: start4.number,
+            margin,
         },
-        last: start4,
+        last,
     }
 }
 

@@ -5,5 +5,6 @@ pub mod contracts;
 pub mod environments;
 pub mod events;
 pub mod holders;
+mod margins;
 pub mod scan;
 pub mod special_lists;
