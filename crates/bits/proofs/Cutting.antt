@@ -1,15 +1,16 @@
 -- Bits cut into numbers, and numbers spread into bits.
 use Prim.Native.Nat.{ℕ, zero, suc, _+_, _*_, _/_, _%_, _^_, _-_, _≤_, _<_}
 use mathlib.Core.List.{List, [], _∷_, _++_}
-use mathlib.Core.Bool.{Bool}
+use mathlib.Core.Bool.{Bool, true, false}
 use mathlib.Core.Path.{_≡_, refl, sym, ap, _∙_}
 use native.Mathlib.Omega.{arith}
 use native.Mathlib.Numerals.{add-one}
 use native.Mathlib.Nat.{mul-zero, mul-suc, add-comm}
+use lib.Dec.{eqb}
 use lib.Pow.{pow-pos}
 use lib.ListN.{length, getD, set, take, drop, length-append, length-drop, length-set, take-append-drop}
 use lib.Seq.{drop-drop, drop-at, ext-getD, length-take-le, take-all, take-append-le, take-suc, take-suc-set}
-use Rattle.bits.specs.Bits.{number, zeros, spread, cut, bitsOf}
+use Rattle.bits.specs.Bits.{bit, odd, number, zeros, spread, cut, bitsOf}
 use Rattle.bits.specs.inner.Words.{numberAt}
 use Rattle.bits.proofs.Spelling.{length-bits-of, number-bits-of, bits-of-number}
 use Rattle.bits.proofs.Fronts.{front-padded, front-at, part, part-add, part-high, part-low, part-lt, part-part, part-past, part-pad, part-take}
@@ -61,6 +62,27 @@ part-spread w (x ∷ xs) zero h = rw (mul-zero w, front-at w (bitsOf w x) (sprea
 part-spread w (x ∷ xs) (suc i) h =
     rw (mul-suc w i, add-comm (w * i) w, ← drop-drop (w * i) w (bitsOf w x ++ spread w xs), drop-at (bitsOf w x) (spread w xs) w (length-bits-of w x))
     (part-spread w xs i (λ j. h (suc j)))
+
+-- The bit at a place, as a number and as one of the byte that it stands in.
+part-one : (at : ℕ) (bs : List Bool) → part 1 at bs ≡ bit (getD bs at false)
+part-one zero [] = refl
+part-one zero (true ∷ bs) = refl
+part-one zero (false ∷ bs) = refl
+part-one (suc at) [] = refl
+part-one (suc at) (b ∷ bs) = part-one at bs
+
+pub bit-spread : (xs : List ℕ) (at : ℕ) → ((i : ℕ) → getD xs i 0 < 2 ^ 8)
+    → odd (getD xs (at / 8) 0 / 2 ^ (7 - at % 8)) ≡ getD (spread 8 xs) at false
+bit-spread xs at fits =
+    let here : 8 * (at / 8) + at % 8 ≡ at = omega arith in
+    let one : getD xs (at / 8) 0 / 2 ^ (7 - at % 8) % 2 ^ 1 ≡ bit (getD (spread 8 xs) at false) =
+    rw (part-spread 8 xs (at / 8) fits, here) at (part-part (at % 8) 1 (7 - at % 8) 8 (8 * (at / 8)) (spread 8 xs) (omega arith))
+    ∙ part-one at (spread 8 xs) in
+    ap (λ (n : ℕ). eqb n 1) one ∙ told (getD (spread 8 xs) at false)
+  where
+    told : (b : Bool) → eqb (bit b) 1 ≡ b
+    told true = refl
+    told false = refl
 
 pub cut-spread : (w : ℕ) (xs : List ℕ) → ((i : ℕ) → getD xs i 0 < 2 ^ w) → cut w w (length xs) (spread w xs) ≡ xs
 cut-spread w xs h = sym (is-cut w w (length xs) xs (spread w xs) refl (λ i l. sym (part-spread w xs i h)))

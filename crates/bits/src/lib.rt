@@ -1,6 +1,6 @@
 // Bits and numbers at a place of some bytes.
 ghost use mathlib.Core.Path.{_≡_};
-ghost use mathlib.Core.Bool.{Bool};
+ghost use mathlib.Core.Bool.{Bool, false};
 ghost use mathlib.Core.List.{List, _++_};
 ghost use Prim.Native.Nat.{_+_, _*_, _/_, _<_, _≤_, _^_, min};
 ghost use lib.Dec.{eqb};
@@ -82,6 +82,14 @@ fn byte(bytes: &[u8], i: usize) -> u8
     ensures { λ r. ⌜ r ≡ getD (now (bytes .entry)) i 0 ⌝ }
 {
     if i < bytes.len() { bytes[i] } else { 0 }
+}
+
+// Whether the bit at a place is one; past the end none is.
+pub fn is_one(bytes: &[u8], at: u32) -> bool
+    ensures { λ r. ⌜ r ≡ getD (spread 8 (now (bytes .entry))) at false ⌝ }
+{
+    let byte = byte(bytes, at as usize / 8);
+    (byte >> (7 - at % 8)) % 2 == 1
 }
 
 // The bits of whole words, 64 each, in words that begin 32 bits apart, and one more word behind them.
