@@ -1,11 +1,14 @@
 """Requests for a card: selection, change of priority, loading, gate writes."""
 
+from random import Random
+
 from draw import EVENT, contract, draw, drawn_record, flipped, noise, record, special_entries, special_list
 
 LARGEST = 4294967295
 WRAPPING = ((148102321, 13), (296204642, 26))      # N and 29 x N modulo 2^32
 ZEROS = "00" * 29
-CODES = [code for code in range(16) if code != 13]
+PRIORITIES = [code for code in range(16) if code != 13]
+VALIDATION, INSPECTION = 0x31, 0x34                # event codes of 004: in the metro, an entry and an inspection
 
 
 def requests(random):
@@ -38,11 +41,21 @@ def special_listing(*pointers):
     return record(made)
 
 
-def event(date=0, minute=0, pointer=None):
-    """An event that names a contract, or none."""
-    if pointer is None:
-        return record(bits((date, 14), (minute, 11), (0, 28)))
-    return record(bits((date, 14), (minute, 11), (1 << 25, 28), (pointer, 5)))
+def event(date=0, minute=0, pointer=None, code=VALIDATION):
+    """An event that has a code and names a contract; either may be missing."""
+    present = [(element, number, width) for element, number, width in ((2, code, 8), (25, pointer, 5))
+               if number is not None]
+    bitmap = sum(1 << element for element, _, _ in present)
+    return record(bits((date, 14), (minute, 11), (bitmap, 28), *[box for _, *box in present]))
+
+
+def marking(*codes):
+    """The 32 bytes in which just these event codes are marked."""
+    return flipped("00" * 32, *codes)
+
+
+def all_but(*codes):
+    return flipped("FF" * 32, *codes)
 
 
 def head(provider=None, start=None, end=None):
@@ -114,20 +127,27 @@ def papers_samples(random):
         yield f"contract.read {flipped(record(drawing.bits), drawing.place)} 80"
         yield f"contract.write {noise(random)} 80 {drawing.words()}"
     yield f"event.read {record(bits((0, 25), (1 << 17, 28)))}"
-    yield f"event.read {event(0, 1439)}"
-    yield f"event.read {event(0, 1440)}"
+    yield f"event.read {event(0, 1439, code=None)}"
+    yield f"event.read {event(0, 1440, code=None)}"
     yield f"list.read {flipped(ZEROS, 231)} 4"
     for wanted in ("07", "06"):
         rest = noise(random, 28)
         yield f"find 05{rest} {wanted}{rest} {noise(random)}"
     for minute in (119, 120):
-        yield quiet_line(1, (100, 60), (100, minute))
+        yield from p13_lines(minute)
 
 
 def p4_line(pointers, erasable, needs_counter):
     entries = [(0, 66, 15 if pointer in erasable else 6, pointer) for pointer in pointers]
     return load_line(contract_list=listing(*entries), positions=8, counters=4, file="11" * 29 * 8,
                      needs_counter=needs_counter)
+
+
+def p13_lines(minute):
+    """The event's code is marked; it is not marked; there is no code."""
+    yield quiet_line(1, (100, 60), (100, minute))
+    yield quiet_line(1, (100, 60), (100, minute), codes=flipped(MARKED, VALIDATION))
+    yield quiet_line(1, (100, 60), (100, minute), journal=event(100, 60, 1, code=None))
 
 
 # ---------------------------------------------------------------- Selection
@@ -143,7 +163,7 @@ def selection(random):
 
 
 def usable_priorities(random):
-    for code in CODES:
+    for code in PRIORITIES:
         yield select_line([(0, 66, code, 1)], [good_contract(random, 66)], 100, 5)
         records = [good_contract(random, 66), good_contract(random, 80)]
         yield select_line([(0, 80, code, 2), (0, 66, 11, 1)], records, 100, 5)
@@ -258,7 +278,7 @@ def refused_selection(random):
 # ---------------------------------------------------------------- Change of priority
 
 def priority_changes(random):
-    plain = listing(*[(random.randrange(16), random.randrange(256), random.choice(CODES), pointer)
+    plain = listing(*[(random.randrange(16), random.randrange(256), random.choice(PRIORITIES), pointer)
                       for pointer in random.sample(range(1, 9), 8)])
     for position in range(10):
         for code in [*range(18), LARGEST]:
@@ -285,9 +305,11 @@ def refused_changes(random, good):
 
 # ---------------------------------------------------------------- Loading
 
+# Entries and exits in five modes of transport. Mirrored within a byte or over the bytes they are other codes.
+MARKED = marking(*[16 * mode + transaction for mode in range(1, 6) for transaction in (1, 2)])
 LOAD_DEFAULTS = dict(contract_list=ZEROS, file="22" * 29 * 4, special_list=ZEROS, journal="-", records="-", new=ZEROS,
-                     positions=4, counters=2, specials=0, day=100, minute=600, hours=2, key=0, kind=66, priority=8,
-                     has_network=0, network=0, needs_counter=0)
+                     codes=MARKED, positions=4, counters=2, specials=0, day=100, minute=600, hours=2, key=0, kind=66,
+                     priority=8, has_network=0, network=0, needs_counter=0)
 FULL = listing(*[(0, 66, 15, pointer) for pointer in (2, 4, 1, 3)])
 
 
@@ -492,7 +514,7 @@ def load_lengths(random):
 def load_faults(random):
     """Changes that are each a fault by itself, in the order in which they are found, on a card with N = 2 and S = 1."""
     return [dict(contract_list=ZEROS[2:]), dict(file="00" * 57), dict(special_list=ZEROS + "00"),
-            dict(journal="00" * 30), dict(records="00" * 28), dict(new="-"),
+            dict(journal="00" * 30), dict(records="00" * 28), dict(new="-"), dict(codes="00" * 31),
             dict(counters=3), dict(day=16384), dict(minute=1440), dict(hours=256), dict(key=16), dict(priority=13),
             dict(network=1), dict(kind=256),
             dict(contract_list=listing((0, 66, 13, 1))), dict(contract_list=listing((0, 66, 1, 3))),
@@ -504,7 +526,7 @@ def load_faults(random):
 
 
 def load_fault_pairs(random):
-    given = dict(file="88" * 58, positions=2, counters=1, records=flipped(event(), 53), specials=1,
+    given = dict(file="88" * 58, positions=2, counters=1, records=flipped(event(code=None), 53), specials=1,
                  journal=flipped(event(), 231), new=flipped(ZEROS, 210))
     faults = load_faults(random)
     for index, one in enumerate(faults):
@@ -515,10 +537,27 @@ def load_fault_pairs(random):
 
 
 def any_event(random, dates, pointer):
-    """An event that names this pointer, among other elements."""
+    """An event that names this pointer, among other elements, with a code or without."""
     elements = sum(1 << element for element in random.sample((0, 2, 4, 8, 16, 18, 27), random.randint(0, 3)))
     fixed = {"date": random.choice(dates), "minute": random.choice([0, 600, 1439]), "bitmap": 1 << 25 | elements}
-    return drawn_record(random, EVENT, {**fixed, "[25]": pointer})
+    return any_code(draw(random, EVENT, {**fixed, "[25]": pointer}))
+
+
+def any_code(drawing):
+    """The event with another code or, one time in five, without one. The chance is the event's own, so that codes
+    change nothing else that is drawn."""
+    random = Random(drawing.bits)
+    code = random.choice([None, 0, VALIDATION, INSPECTION, random.randrange(256)])
+    others = drawing.value["bitmap"][0] & ~(1 << 2)
+    numbers = {field.name: drawing.value[field.name] for field in drawing.fields}
+    changed = {"bitmap": others, "[2]": 0} if code is None else {"bitmap": others | 1 << 2, "[2]": code}
+    return drawn_record(random, EVENT, {**numbers, **changed})
+
+
+def any_marking(journal):
+    """Three in four of all codes are marked. The chance is the journal's own."""
+    random = Random(journal)
+    return f"{random.getrandbits(256) | random.getrandbits(256):064X}"
 
 
 def any_loading(random):
@@ -535,10 +574,11 @@ def any_loading(random):
         has_network, kind = random.choice([0, 0, 1]), random.choice([66, 80])
         yield load_line(contract_list=listing(*entries), file=noise(random, 29 * positions), journal=journal or "-",
                         special_list=special_listing(*listed), records=records or "-", new=good_contract(random, kind),
-                        positions=positions, counters=counters, specials=specials, day=day,
+                        codes=any_marking(journal), positions=positions, counters=counters, specials=specials, day=day,
                         minute=random.choice([0, 599, 600, 661]), hours=random.choice([0, 1, 10, 24, 25]),
-                        key=random.randrange(16), kind=kind, priority=random.choice(CODES), has_network=has_network,
-                        network=has_network * random.randrange(1 << 24), needs_counter=random.randint(0, 1))
+                        key=random.randrange(16), kind=kind, priority=random.choice(PRIORITIES),
+                        has_network=has_network, network=has_network * random.randrange(1 << 24),
+                        needs_counter=random.randint(0, 1))
 
 
 # ---------------------------------------------------------------- Gate writes

@@ -3,13 +3,15 @@
 ZEROS = "00" * 29
 ENV_ZEROS = " ".join(["0"] * 10)
 HOLDER_ZEROS = "00" * 116
+NO_CODES = "00" * 32
+LOAD_BYTES, LOAD_NUMBERS = f"load {ZEROS} {ZEROS} {ZEROS} - - {ZEROS}", "1 0 0 0 0 0 0 66 0"
 LONGEST = 8192
 PADDED = f"special.read {ZEROS} "
 
 
 def requests():
     """Bytes, since some of these lines are not text."""
-    for family in (words, numbers, byte_strings, separators, flags, tags, margins, long_lines):
+    for family in (words, numbers, byte_strings, separators, flags, codes, tags, margins, long_lines):
         for line in family():
             yield line if isinstance(line, bytes) else line.encode()
 
@@ -64,7 +66,20 @@ def flags():
     """HASNETWORK and COUNTER are 0 or 1."""
     for has_network, needs_counter in (("0", "0"), ("1", "1"), ("2", "0"), ("0", "2"), ("4294967295", "0"),
                                        ("00", "01"), ("-", "0"), ("0", "-"), ("0", "256")):
-        yield f"load {ZEROS} {ZEROS} {ZEROS} - - {ZEROS} 1 0 0 0 0 0 0 66 0 {has_network} 0 {needs_counter}"
+        yield f"{LOAD_BYTES} {NO_CODES} {LOAD_NUMBERS} {has_network} 0 {needs_counter}"
+
+
+def codes():
+    """CODES stands behind NEW and may have any length; the line of before Q-3, which lacks it, is no request."""
+    rest = f"{LOAD_NUMBERS} 0 0 0"
+    for good in (NO_CODES, "FF" * 32, "0A" * 32, "-", "00", "FF" * 31, "FF" * 33, "00" * 1000):
+        yield f"{LOAD_BYTES} {good} {rest}"
+    for bad in ("0", "000", NO_CODES[1:], NO_CODES + "0", "ff" * 32, NO_CODES[2:] + "0a", NO_CODES[2:] + "a0",
+                NO_CODES[2:] + "0G", NO_CODES[1:] + "-", "--", "0x" + NO_CODES, "x", ""):
+        yield f"{LOAD_BYTES} {bad} {rest}"
+    yield from (f"{LOAD_BYTES} {rest}", f"{LOAD_BYTES} {rest} {NO_CODES}", f"{LOAD_BYTES} {NO_CODES} {NO_CODES} {rest}",
+                f"{LOAD_BYTES} {NO_CODES} {rest} 0", f"{LOAD_BYTES} {NO_CODES} {rest[2:]}",
+                f"load {NO_CODES} {LOAD_BYTES[5:]} {rest}", f"{LOAD_BYTES[:-58]}{NO_CODES} {ZEROS} {rest}")
 
 
 def tags():

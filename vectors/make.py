@@ -9,6 +9,7 @@ from pathlib import Path
 from random import Random
 
 import cards
+import codes
 import fields
 import lines
 import margins
@@ -113,6 +114,8 @@ MARGIN_WRITERS = {name for name, _ in MARGIN_FAULTS}
 
 WITH_PARAMETER = ("special", "list", "contract")          # a number follows the record
 TYPE_REFUSED = "3 0 0"
+ALL_ONES = "FF" * 32                                      # all codes marked
+TURNED_OVER = str.maketrans("0123456789ABCDEF", "FEDCBA9876543210")
 
 
 def ask(request):
@@ -120,8 +123,10 @@ def ask(request):
 
 
 def check_samples():
-    """P1 to P13 and the second slip, as document 01 gives them, with the field of Q-2 and the margin of Q-7."""
+    """P1 to P13 and the second slip, as document 01 gives them, with the field of Q-2, the margin of Q-7 and the marked
+    code of Q-3 (P13 also with the code unmarked and without a code: free both times)."""
     zeros, p2 = "0" * 58, cards.P2_LIST
+    p9, p9_past = (cards.event(0, minute, code=None) for minute in (1439, 1440))
     assert ask(f"list.read {zeros} 4") == "0 0 0 0" + " 0" * 48                                            # P1
     assert ask(f"list.read {p2} 4") == "0 0 0 3 6 0 0 16 6 1 6 0 2 16 9 2 6 0 2 5 15 3" + " 0" * 30        # P2
     loaded = ask(cards.load_line(contract_list=p2, counters=4, key=2, priority=6)).split(" ")
@@ -131,13 +136,13 @@ def check_samples():
     assert ask("list.read 1C021A1" + "0" * 51 + " 4") == "4 7 3"                                           # P6
     assert [contract_bits(groups) for groups in (0xD843, 0x810D, 0x0030)] == [207, 198, 142]               # P7
     assert ask(f"event.read {cards.record(cards.bits((0, 25), (1 << 17, 28)))}") == "2 53 20"              # P8
-    assert ask(f"event.read {cards.event(0, 1439)}") == "0 0 0 0 1439" + " 0" * 33 + f" {zeros}"           # P9
-    assert ask(f"event.read {cards.event(0, 1440)}") == "4 14 1"
+    assert ask(f"event.read {p9}") == "0 0 0 0 1439" + " 0" * 33 + f" {zeros}"                             # P9
+    assert ask(f"event.read {p9_past}") == "4 14 1"
     assert ask(f"list.read {zeros[2:]}01 4") == "5 231 0"                                                  # P10
     assert ask(f"find 05{zeros[2:]} 07{zeros[2:]} {zeros}") == f"0 0 0 02{zeros[2:]}"                      # P11
     assert ask(f"find 05{zeros[2:]} 06{zeros[2:]} {zeros}") == f"10 7 0 {zeros}"                           # P12
-    assert ask(cards.quiet_line(1, (100, 60), (100, 119))).startswith("9 0 0 0 ")                          # P13
-    assert ask(cards.quiet_line(1, (100, 60), (100, 120))).startswith("0 0 0 1 ")
+    assert [ask(line)[:7] for line in cards.p13_lines(119)] == ["9 0 0 0", "0 0 0 1", "0 0 0 1"]           # P13
+    assert [ask(line)[:7] for line in cards.p13_lines(120)] == ["0 0 0 1"] * 3
     assert loaded_pointers((1, 2, 7, 3, 5, 6, 8, 4), range(5, 9), 0)[0] == 7                               # slip
 
 
@@ -159,6 +164,18 @@ def check_margin_samples():
     assert ask(f"holder.read {area[2:]}01") == "0 0 0" + " 0" * 111 + f" {area[2:]}01{area}"
 
 
+def check_code_samples():
+    """Q-3 by hand: codes 0, 7, 8, 49 and 255, in an event of day 100, minute 60, with the elements [2] and [25]. It
+    blocks if its code alone is marked, not if all others are."""
+    before, pointer = "00000001100100" "00000111100" "0010000000000000000000000100", "00001"
+    for code, marked in (("00000000", "80" + "00" * 31), ("00000111", "01" + "00" * 31),
+                         ("00001000", "0080" + "00" * 30), ("00110001", "00" * 6 + "40" + "00" * 25),
+                         ("11111111", "00" * 31 + "01")):
+        given = dict(hours=1, event_time=(100, 60), now=(100, 60), journal=cards.record(before + code + pointer))
+        assert ask(cards.quiet_line(codes=marked, **given)).startswith("9 0 0 0 ")
+        assert ask(cards.quiet_line(codes=marked.translate(TURNED_OVER), **given)).startswith("0 0 0 1 ")
+
+
 def loaded_pointers(listed, erasable, needs_counter):
     """The pointer taken and the pointers of the new list."""
     *refusal, pointer, new_list, _ = ask(cards.p4_line(listed, erasable, needs_counter)).split(" ")
@@ -177,7 +194,7 @@ def contract_bits(groups):
 def drawn_requests():
     """In order, each once."""
     random = Random(SEED)
-    made = [*cards.requests(random), *records.requests(random), *fields.requests(random), *margins.requests(random)]
+    made = [request for maker in (cards, records, fields, margins, codes) for request in maker.requests(random)]
     return list(dict.fromkeys(made))
 
 
@@ -255,6 +272,43 @@ def check_cards(requests):
                 assert after == file[:index] + [words[5]] + file[index + 1:], request
             words[3], words[4] = ("".join(map(plain_event, split(file))) or "-" for file in words[3:5])
             assert ask(" ".join([name, *words])).split(" ") == answer, request
+
+
+def check_codes(requests):
+    """Q-3, for each loading. Refused before a position was looked for, it is refused alike with all of CODES turned
+    over. Else it answers the same without the journal's events that have no marked code, with all codes marked; and the
+    same with the bits of all codes turned over that no event has; and with nothing marked as without a journal."""
+    for request in requests:
+        name, *words = request.split(" ")
+        if name == "load":
+            answer = ask(request)
+            journal, marks = split(words[3]), words[6]
+            if not was_read(request, answer):
+                assert ask(changed(words, journal, marks.translate(TURNED_OVER))) == answer, request
+            else:
+                bits = [code_bit(event) for event in journal]
+                marked = [event for event, bit in zip(journal, bits) if int(marks, 16) & bit]
+                others = int(ALL_ONES, 16) - sum(set(bits))
+                assert ask(changed(words, marked, ALL_ONES)) == answer, request
+                assert ask(changed(words, journal, f"{int(marks, 16) ^ others:064X}")) == answer, request
+                assert ask(changed(words, journal, "00" * 32)) == ask(changed(words, [], marks)), request
+
+
+def was_read(request, answer):
+    """All lengths, parameters and records of the loading are right; a new list that does not fit is 2."""
+    number, *_ = first_three(answer)
+    return number in (0, 9) or number == 2 and walk_at_fault(request, answer)[0] == "new list"
+
+
+def code_bit(event):
+    """The bit of the event's code in a number of 256 bits whose highest is code 0; 0 if it has no code."""
+    _, _, _, _, _, bitmap, _, _, code, *_ = ask(f"event.read {event}").split(" ")
+    return 1 << 255 - int(code) if int(bitmap) & 0b100 else 0
+
+
+def changed(words, journal, marks):
+    """The loading with these records as its journal and with these CODES."""
+    return " ".join(["load", *words[:3], "".join(journal) or "-", *words[4:6], marks, *words[7:]])
 
 
 def plain_event(record):
@@ -336,7 +390,8 @@ def readings(name, words):
         return [("list", name, f"list.read {words[0]} {words[2]}")]
     if name == "priority":
         return [("list", name, f"list.read {words[0]} {words[1]}")]
-    contract_list, _, special_list, journal, special_events, new, positions, _, specials, _, _, _, _, kind, *_ = words
+    contract_list, _, special_list, journal, special_events, new, _, positions, _, specials, *_ = words
+    kind = words[14]
     return [("list", name, f"list.read {contract_list} {positions}"),
             ("special", name, f"special.read {special_list} {specials}"),
             *[("event", "load's journal", f"event.read {record}") for record in split(journal)],
@@ -366,10 +421,12 @@ def print_row(name, counts):
 def main(stdin=DEFAULT_STDIN, stdout=DEFAULT_STDOUT):
     check_samples()
     check_margin_samples()
+    check_code_samples()
     drawn = drawn_requests()
     check_round_trips(drawn)
     check_margins(drawn)
     check_cards(drawn)
+    check_codes(drawn)
     requests = [line.encode() for line in drawn] + list(lines.requests())
     answers = [model.answer(request) for request in requests]
     pairs = count_pairs(requests, answers)

@@ -2,7 +2,7 @@
 one at any other place refused. What is drawn elsewhere often has a margin, too; here margins are chosen."""
 
 import model
-from cards import FULL, event, head, load_line, own_dates, quiet_line, select_line, special_listing
+from cards import FULL, VALIDATION, event, head, load_line, own_dates, quiet_line, select_line, special_listing
 from draw import (ALL_ONES, ENVIRONMENT, EVENT, MARGINS, contract, draw, drawn_record, flipped, holder, noise, ones,
                   read, record, write, write_ones)
 from fields import OUT_OF_RANGE, RARE
@@ -262,18 +262,20 @@ def new_contracts(random):
 
 
 def marked_events(random):
-    """An event that names contract 1 and one that names none; whatever the margin, they block as without it."""
-    for fixed in ({"bitmap": 1 << 25, "[25]": 1}, {"bitmap": 0}, {"bitmap": 1 << 25 | 1 << 3, "[25]": 0}):
+    """An event that names contract 1 and two that name none; whatever the margin, they block as without it."""
+    for fixed in ({"bitmap": 1 << 25 | 1 << 2, "[2]": VALIDATION, "[25]": 1}, {"bitmap": 0},
+                  {"bitmap": 1 << 25 | 1 << 3, "[25]": 0}):
         yield from marked(random, EVENT, {"date": 100, "minute": 60, **fixed})
 
 
 def journal_events(random):
+    other = flipped(event(code=None), 53)
     for lent in marked_events(random):
         for minute in (119, 120):
             yield quiet_line(1, (100, 60), (100, minute), journal=lent)
-            yield quiet_line(1, (100, 60), (100, minute), journal=flipped(event(), 53) + lent)
-    yield quiet_line(1, (100, 60), (100, 119), journal=flipped(event(), 53) * 14 + lent)
-    yield quiet_line(1, (100, 60), (100, 119), journal=flipped(event(), 53) * 14 + flipped(event(100, 60, 1), 58))
+            yield quiet_line(1, (100, 60), (100, minute), journal=other + lent)
+    yield quiet_line(1, (100, 60), (100, 119), journal=other * 14 + lent)
+    yield quiet_line(1, (100, 60), (100, 119), journal=other * 14 + flipped(event(100, 60, 1), 66))
 
 
 def special_events(random):

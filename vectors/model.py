@@ -1,5 +1,5 @@
-"""A plain model of the operations, written from document 01, from requests Q-2 and Q-7 of document 02, and from nothing
-else.
+"""A plain model of the operations, written from document 01, from requests Q-2, Q-3 and Q-7 of document 02, and from
+nothing else.
 
 `answer(line)` takes one request line of REPLAY.md (bytes, without its line feed) and gives the answer line.
 
@@ -18,6 +18,7 @@ MOST_RECORDS = 15                # "A multiple with more than 15 records is 11."
 MOST_ENTRIES = 8                 # the largest N
 MOST_SPECIALS = 4
 MOST_PROFILES = 4
+ALL_CODES = 32                   # bytes of the marked codes: "one bit for each event code"
 TYPE_42, TYPE_50 = 0x42, 0x50
 NO_DATA = 0                      # the tag of a contract whose bit [6] is zero
 LAST_USABLE, UNDEFINED, ERASABLE = 11, 13, 15     # priorities
@@ -272,6 +273,7 @@ def walk_profiles(walk, present):
 
 
 EVENT = [8, 24, 8, 8, 8, 8, 24, 16, 16, 8, 16, 16, 8, 16, 16, 8, 5, 240, 16, 8, 16, 16, 16, 16, 16, 5, 16]
+EVENT_CODE = 2
 EVENT_UNBOXED = 17               # can never fit, and has no number in the value
 EVENT_CONTRACT = 25
 
@@ -660,10 +662,10 @@ def list_numbers(entries):
 
 # ---------------------------------------------------------------- Where a new contract goes
 
-def load(contract_list, file, special_list, journal, records, new, positions, counters, specials, day, minute, hours,
-         key, kind, priority, has_network, network, needs_counter):
+def load(contract_list, file, special_list, journal, records, new, codes, positions, counters, specials, day, minute,
+         hours, key, kind, priority, has_network, network, needs_counter):
     require_lengths((contract_list, RECORD), (file, RECORD * positions), (special_list, RECORD),
-                    (records, RECORD * specials), (new, RECORD))
+                    (records, RECORD * specials), (new, RECORD), (codes, ALL_CODES))
     require_records(journal)
     require(1 <= positions <= MOST_ENTRIES, counters <= 4, counters <= positions, specials <= MOST_SPECIALS,
             len(journal) <= RECORD * MOST_RECORDS, day <= 16383, minute <= 1439, hours <= 255,
@@ -675,7 +677,8 @@ def load(contract_list, file, special_list, journal, records, new, positions, co
     special_events = read_events(records)
     read_contract(new, kind)
 
-    blocked = quiet_pointers(journal_events, minutes(day, minute), 60 * hours)
+    marked_events = [event for event in journal_events if marked(event, codes)]
+    blocked = quiet_pointers(marked_events, minutes(day, minute), 60 * hours)
     blocked += [special_events[entry.pointer - 1]["[25]"][0] for entry in listed_specials]
     pointer = place_for(entries, blocked, positions, counters, needs_counter)
 
@@ -692,6 +695,13 @@ def split(file):
 
 def read_events(file):
     return [read_walk(record, walk_event) for record in split(file)]
+
+
+def marked(event, codes):
+    """Q-3: "A journal event blocks only if it has a code and that code's bit is one": bit 0 is code 0. A code of zero
+    is a code, too, so the event's bitmap says whether it has one."""
+    has_code = event["bitmap"][0] >> EVENT_CODE & 1 == 1
+    return has_code and to_bits(codes)[event["[2]"][0]] == "1"
 
 
 def minutes(day, minute):
@@ -850,7 +860,7 @@ OPERATIONS = {
     b"contract.write": Operation(CONTRACT_WORDS, contract_write, first),
     b"select": Operation([byte_string] * 2 + [NUMBER] * 3, select, no_part),
     b"priority": Operation([byte_string] + [NUMBER] * 3, change_priority, first),
-    b"load": Operation([byte_string] * 6 + [NUMBER] * 9 + [FLAG, NUMBER, FLAG], load, nothing_loaded),
+    b"load": Operation([byte_string] * 7 + [NUMBER] * 9 + [FLAG, NUMBER, FLAG], load, nothing_loaded),
     b"apply": Operation([byte_string] * 2, apply_writes, first),
     b"find": Operation([byte_string] * 3, find_write, third),
     b"join": Operation([byte_string] * 3, join_writes, third),

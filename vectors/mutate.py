@@ -48,6 +48,40 @@ def without_margins(line, values):
 """
 
 
+READ_JOURNAL = """    journal_events = read_events(journal)
+"""
+PEEK = """    def peek(record):
+        unchecked = type("Unchecked", (Reading,), {"refuse": lambda *_: None})(record)
+        try:
+            walk_event(unchecked)
+        except ValueError:
+            pass                 # past the end
+        return unchecked.value
+
+"""
+HAS_CODE = """    has_code = event["bitmap"][0] >> EVENT_CODE & 1 == 1
+"""
+IS_MARKED = """    return has_code and to_bits(codes)[event["[2]"][0]] == "1"
+"""
+BIT = 'to_bits(codes)[event["[2]"][0]]'
+CODE = 'event["[2]"][0]] == "1"'
+MARKED_EVENTS = """    marked_events = [event for event in journal_events if marked(event, codes)]
+"""
+CODES_LENGTH = ", (codes, ALL_CODES))"
+LAST_LIMIT = """network < (1 << 24 if has_network else 1))
+"""
+
+
+def element_as_code(element):
+    return (HAS_CODE, HAS_CODE.replace("EVENT_CODE", str(element)), CODE, CODE.replace("[2]", f"[{element}]"))
+
+
+def length_as(pair, beyond="0"):
+    """CODES' length is checked as this pair; a bit past its end is taken as `beyond`."""
+    return (CODES_LENGTH, f", {pair})" if pair else ")",
+            BIT, BIT.replace("to_bits(codes)", f'to_bits(codes).ljust(256, "{beyond}")'))
+
+
 # What is wrong, the text of model.py that is right (it occurs once), the text in its place; there may be several such
 # pairs of texts.
 MUTATIONS = [
@@ -660,6 +694,216 @@ MUTATIONS = [
     ("an empty margin is one of zeros",
      "if len(lent) != length:",
      "if lent == b\"\":\n            return bytes(length)\n        if len(lent) != length:"),
+
+    # Q-3: the bit of a code
+    ("a code's bit is counted from the low end of its byte",
+     CODE,
+     'event["[2]"][0] ^ 0b00000111] == "1"'),
+    ("a code's byte is counted from the last",
+     CODE,
+     'event["[2]"][0] ^ 0b11111000] == "1"'),
+    ("a code's bit is counted from the last of all",
+     CODE,
+     '255 - event["[2]"][0]] == "1"'),
+    ("codes are counted from 1",
+     CODE,
+     'event["[2]"][0] - 1] == "1"'),
+    ("the next code's bit is asked",
+     CODE,
+     '(event["[2]"][0] + 1) % 256] == "1"'),
+    ("of a code the low seven bits count",
+     CODE,
+     'event["[2]"][0] % 128] == "1"'),
+    ("of a code the low five bits count",
+     CODE,
+     'event["[2]"][0] % 32] == "1"'),
+    ("of a code the low four bits count, the transaction",
+     CODE,
+     'event["[2]"][0] % 16] == "1"'),
+    ("the halves of a code are exchanged",
+     CODE,
+     'event["[2]"][0] % 16 * 16 + event["[2]"][0] // 16] == "1"'),
+    ("the low five bits of a code are its byte, the high three its bit",
+     CODE,
+     'event["[2]"][0] % 32 * 8 + event["[2]"][0] // 32] == "1"'),
+    ("a code is marked if its byte is not zero",
+     BIT + ' == "1"',
+     'codes[event["[2]"][0] // 8] != 0'),
+    ("a code is marked if any is",
+     BIT + ' == "1"',
+     'any(codes)'),
+    ("unmarked codes block, marked ones do not",
+     BIT + ' == "1"',
+     BIT + ' == "0"'),
+    ("any code blocks",
+     IS_MARKED,
+     "    return has_code\n"),
+    ("no code blocks",
+     IS_MARKED,
+     "    return False\n"),
+
+    # Q-3: whether there is a code
+    ("an event without a code blocks as code 0",
+     IS_MARKED,
+     IS_MARKED.replace("has_code and ", "")),
+    ("an event without a code blocks always",
+     IS_MARKED,
+     IS_MARKED.replace("has_code and", "not has_code or")),
+    ("an event without a code blocks if all codes are marked",
+     IS_MARKED,
+     IS_MARKED.replace("has_code and", "all(byte == 255 for byte in codes) or has_code and")),
+    ("a code of zero is none",
+     HAS_CODE,
+     """    has_code = event["[2]"][0] != 0
+"""),
+    ("element [1] says whether there is a code",
+     HAS_CODE,
+     HAS_CODE.replace("EVENT_CODE", "1")),
+    ("element [3] says whether there is a code",
+     HAS_CODE,
+     HAS_CODE.replace("EVENT_CODE", "3")),
+    ("display data [0] are taken for the code",
+     *element_as_code(0)),
+    ("the result [3] is taken for the code",
+     *element_as_code(3)),
+    ("the provider [4] is taken for the code",
+     *element_as_code(4)),
+    ("the provider [4] is taken for the code of an event that has one",
+     CODE,
+     CODE.replace("[2]", "[4]")),
+    ("the eight bits behind the bitmap are taken for the code",
+     CODE,
+     'event["[0]"][0] if event["bitmap"][0] & 1 else event["[1]"][0] >> 16 if event["bitmap"][0] & 2 else '
+     'event["[2]"][0]] == "1"'),
+
+    # Q-3: what else blocks
+    ("special events need a marked code, too",
+     "for entry in listed_specials]\n",
+     "for entry in listed_specials\n                if marked(special_events[entry.pointer - 1], codes)]\n"),
+    ("special events need a code, marked or not",
+     "for entry in listed_specials]\n",
+     "for entry in listed_specials\n"
+     '                if special_events[entry.pointer - 1]["bitmap"][0] >> EVENT_CODE & 1]\n'),
+    ("special events with a code need a marked one",
+     "for entry in listed_specials]\n",
+     "for entry in listed_specials\n                if marked(special_events[entry.pointer - 1], codes)"
+     ' or not special_events[entry.pointer - 1]["bitmap"][0] >> EVENT_CODE & 1]\n'),
+    ("special events that are not listed block if their code is marked",
+     "for entry in listed_specials]\n",
+     """for entry in listed_specials]
+    blocked += [event["[25]"][0] for event in special_events if marked(event, codes)]
+"""),
+    ("marked events block whatever their age",
+     "if age < 0 or age < quiet:",
+     "if True:"),
+    ("marked events block every pointer",
+     'pointers += event["[25]"]',
+     "pointers += range(1, MOST_ENTRIES + 1)"),
+    ("events later than now block unmarked",
+     MARKED_EVENTS,
+     """    marked_events = [event for event in journal_events if marked(event, codes)
+                     or minutes(event["date"][0], event["minute"][0]) > minutes(day, minute)]
+"""),
+    ("marked events later than now block nothing",
+     "if age < 0 or age < quiet:",
+     "if 0 <= age < quiet:"),
+
+    # Q-3: several events
+    ("only the first event is asked for its code, the others block without",
+     MARKED_EVENTS,
+     """    marked_events = [event for index, event in enumerate(journal_events) if index or marked(event, codes)]
+"""),
+    ("only the first event blocks",
+     MARKED_EVENTS,
+     MARKED_EVENTS.replace("journal_events", "journal_events[:1]")),
+    ("only the last event blocks",
+     MARKED_EVENTS,
+     MARKED_EVENTS.replace("journal_events", "journal_events[-1:]")),
+    ("the first event's code stands for all",
+     MARKED_EVENTS,
+     MARKED_EVENTS.replace("marked(event, codes)", "marked(journal_events[0], codes)")),
+    ("one marked event lets all events block",
+     MARKED_EVENTS,
+     MARKED_EVENTS.replace("marked(event, codes)", "any(marked(other, codes) for other in journal_events)")),
+    ("events block only if all are marked",
+     MARKED_EVENTS,
+     MARKED_EVENTS.replace("marked(event, codes)", "all(marked(other, codes) for other in journal_events)")),
+    ("no event is asked behind one that is not marked",
+     MARKED_EVENTS,
+     """    marked_events = []
+    for event in journal_events:
+        if not marked(event, codes):
+            break
+        marked_events.append(event)
+"""),
+    ("of the events that name a pointer the first decides",
+     MARKED_EVENTS,
+     """    deciding = {event["[25]"][0]: event for event in reversed(journal_events)}
+    marked_events = [event for event in deciding.values() if marked(event, codes)]
+"""),
+    ("of the events that name a pointer the last decides",
+     MARKED_EVENTS,
+     """    deciding = {event["[25]"][0]: event for event in journal_events}
+    marked_events = [event for event in deciding.values() if marked(event, codes)]
+"""),
+    ("an event whose code is not marked is not read",
+     READ_JOURNAL,
+     PEEK + """    journal_events = read_events(b"".join(record for record in split(journal)
+                                          if marked(peek(record), codes) or not peek(record)["bitmap"][0] & 0b100))
+"""),
+    ("an event without a code is not read",
+     READ_JOURNAL,
+     PEEK + """    journal_events = read_events(b"".join(record for record in split(journal)
+                                          if peek(record)["bitmap"][0] & 0b100))
+"""),
+    ("marked events are read before the others",
+     READ_JOURNAL,
+     PEEK + """    in_turn = sorted(split(journal), key=lambda record: not marked(peek(record), codes))
+    journal_events = read_events(b"".join(in_turn))
+"""),
+
+    # Q-3: CODES lent, and as a word
+    ("the length of CODES is not checked",
+     *length_as("")),
+    ("CODES may be longer",
+     *length_as("(codes[:ALL_CODES], ALL_CODES)")),
+    ("CODES may be shorter",
+     *length_as("(codes.ljust(ALL_CODES), ALL_CODES)")),
+    ("CODES may have any multiple of 32 bytes",
+     *length_as("(bytes(len(codes) % ALL_CODES), 0)")),
+    ("no CODES mark nothing",
+     *length_as("(codes or bytes(ALL_CODES), ALL_CODES)")),
+    ("no CODES mark all codes",
+     *length_as("(codes or bytes(ALL_CODES), ALL_CODES)", beyond="1")),
+    ("the length of CODES is checked only where there is a journal",
+     *length_as("(codes if journal else bytes(ALL_CODES), ALL_CODES)")),
+    ("11 comes before the length of CODES",
+     CODES_LENGTH,
+     ")",
+     LAST_LIMIT,
+     LAST_LIMIT + "    require_lengths((codes, ALL_CODES))\n"),
+    ("the length of CODES is checked after all reading",
+     CODES_LENGTH,
+     ")",
+     MARKED_EVENTS,
+     "    require_lengths((codes, ALL_CODES))\n" + MARKED_EVENTS),
+    ("another length of CODES is 11",
+     CODES_LENGTH,
+     ")",
+     LAST_LIMIT,
+     LAST_LIMIT.replace("else 1))", "else 1), len(codes) == ALL_CODES)")),
+    ("another length of CODES is a bad line",
+     "[byte_string] * 7",
+     "[byte_string] * 6 + [margin_of(ALL_CODES)]"),
+    ("CODES stands before NEW",
+     "journal, records, new, codes, positions",
+     "journal, records, codes, new, positions"),
+    ("a line without CODES is taken, and all codes are marked",
+     "    if len(words) != len(kinds):\n",
+     """    if name == b"load" and len(words) == len(kinds) - 1:
+        words.insert(6, b"FF" * ALL_CODES)
+    if len(words) != len(kinds):
+"""),
 ]
 
 UNCHANGED = "nothing", "LONGEST_LINE = 8192", "LONGEST_LINE = 8192"

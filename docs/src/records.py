@@ -25,6 +25,7 @@ REWRITE = 7                      # a reader's number and 7: read, then written a
 SELECT, LOAD = 14, 15
 TYPE = {CONTRACT_42: 0x42, CONTRACT_50: 0x50}
 RECORD_BITS = 232
+MARKED = bytes.fromhex("55" * 32)     # event codes that block: the odd ones
 
 
 # ---------------------------------------------------------------- What the programs read
@@ -250,9 +251,9 @@ def load_unit(random, events):
     file = b"".join(dated_contract(random)[1] for _ in range(POSITIONS))
     kind, new = dated_contract(random)
     parameters = bytes([0, day]) + random.randrange(1440).to_bytes(2, "big") + bytes([
-        random.choice([0, 1, 2, 24]), random.randrange(16), kind, random.choice(cards.CODES), random.randint(0, 1)])
+        random.choice([0, 1, 2, 24]), random.randrange(16), kind, random.choice(cards.PRIORITIES), random.randint(0, 1)])
     return (bytes([LOAD]) + hex_bytes(cards.listing(*entries)) + file + hex_bytes(cards.special_listing(*listed))
-            + dated_events(random, SPECIALS, day) + new + parameters + dated_events(random, events, day))
+            + dated_events(random, SPECIALS, day) + new + parameters + MARKED + dated_events(random, events, day))
 
 
 def dated_events(random, count, day):

@@ -162,9 +162,9 @@ fn select(lent: &[u8]) -> u64 {
 }
 
 // Contract list and file, special event list and records, the new contract; day and minute (two bytes each), hours, key,
-// type, priority, whether it needs a counter; the journal.
+// type, priority, whether it needs a counter; the marked codes; the journal.
 fn load(lent: &[u8]) -> u64 {
-    if lent.len() < 444 {
+    if lent.len() < 476 {
         return 0;
     }
     let mut list = [0u8; 29];
@@ -176,9 +176,10 @@ fn load(lent: &[u8]) -> u64 {
         &mut list,
         &mut file,
         &lent[261..290],
-        &lent[444..],
+        &lent[476..],
         &lent[290..406],
         &lent[406..435],
+        &lent[444..476],
         order,
     );
     digest::of(loaded.refusal, loaded.pointer)

@@ -35,14 +35,15 @@ use Rattle.loading.proofs.Placing.{Named, placed-free-or-erasable, plac
 use Rattle.loading.proofs.Told.{blocking-stops}
 
 -- What all of some tests tell of one.
-of-six : (a b c d e f : Bool) → (a && b && c && d && e && f) ≡ true → (a ≡ true) × (b ≡ true) × (e ≡ true) × (f ≡ true)
-of-six true true true true true true h = (refl, refl, refl, refl)
-of-six true true true true true false h = absurd (true≢false (sym h))
-of-six true true true true false f h = absurd (true≢false (sym h))
-of-six true true true false e f h = absurd (true≢false (sym h))
-of-six true true false d e f h = absurd (true≢false (sym h))
-of-six true false c d e f h = absurd (true≢false (sym h))
-of-six false b c d e f h = absurd (true≢false (sym h))
+of-seven : (a b c d e f g : Bool) → (a && b && c && d && e && f && g) ≡ true → (a ≡ true) × (b ≡ true) × (e ≡ true) × (f ≡ true)
+of-seven true true true true true true true h = (refl, refl, refl, refl)
+of-seven true true true true true true false h = absurd (true≢false (sym h))
+of-seven true true true true true false g h = absurd (true≢false (sym h))
+of-seven true true true true false f g h = absurd (true≢false (sym h))
+of-seven true true true false e f g h = absurd (true≢false (sym h))
+of-seven true true false d e f g h = absurd (true≢false (sym h))
+of-seven true false c d e f g h = absurd (true≢false (sym h))
+of-seven false b c d e f g h = absurd (true≢false (sym h))
 
 of-ten : (a b c d e f g h i j : Bool) → (a && b && c && d && e && f && g && h && i && j) ≡ true → (b ≡ true) × (d ≡ true) × (j ≡ true)
 of-ten true true true true true true true true true true all = (refl, refl, refl)
@@ -113,7 +114,7 @@ module _ (o : Order) (list file : List ℕ) (lent : Lent) where
       go : (a : Bool) → lengths o (lengthsOf list file lent) ≡ a → (b : Bool) → limits o (length (lent .journal) / 29) ≡ b
           → (pick {A = Refusal} a (pick b (refusal 0 0) (refusal 11 0)) (refusal 1 0)) .number ≡ 0 → Card o list file lent
       go true l true k h =
-          let (list-ok, file-ok, records-ok, new-ok) = of-six (eqb (length list) 29) (eqb (length file) (29 * o .n)) (eqb (length (lent .special)) 29) (eqb (length (lent .journal) % 29) 0) (eqb (length (lent .records)) (29 * o .s)) (eqb (length (lent .new)) 29) l in
+          let (list-ok, file-ok, records-ok, new-ok) = of-seven (eqb (length list) 29) (eqb (length file) (29 * o .n)) (eqb (length (lent .special)) 29) (eqb (length (lent .journal) % 29) 0) (eqb (length (lent .records)) (29 * o .s)) (eqb (length (lent .new)) 29) (eqb (length (lent .codes)) 32) l in
           let (high, within, entry-ok) = of-ten (leb 1 (o .n)) (leb (o .n) 8) (leb (o .c) 4) (leb (o .c) (o .n)) (leb (o .s) 4) (leb (length (lent .journal) / 29) 15) (leb (o .day) 16383) (leb (o .minute) 1439) (leb (o .hours) 255) (entryFits o) k in
           record {
             lengths-agree = l;
@@ -157,15 +158,15 @@ module _ (o : Order) (list file : List ℕ) (lent : Lent) where
       refused-list other = rw (read-all, ← same, ne-eqb _ _ other)
 
       module _ (reads : r .refusal .number ≡ 0) where
-        refused-attempt : (x : Refusal) → blocking o (lent .special) (lent .journal) (lent .records) ≡ stopped x → loaded x 0 list file ≡ loading o list file lent
+        refused-attempt : (x : Refusal) → blocking o (lent .special) (lent .journal) (lent .records) (lent .codes) ≡ stopped x → loaded x 0 list file ≡ loading o list file lent
         unfolding placing
         refused-attempt x e = rw (read-all, ← same, eq-eqb _ _ reads, e)
 
-        module _ {marks : List Bool} {x : Refusal} (m : Marking (blocking o (lent .special) (lent .journal) (lent .records)) (λ b. b) (replicate 9 false) marks x) where
+        module _ {marks : List Bool} {x : Refusal} (m : Marking (blocking o (lent .special) (lent .journal) (lent .records) (lent .codes)) (λ b. b) (replicate 9 false) marks x) where
           pub refused-events : (x .number ≡ 0 → ⊥) → loaded x 0 list file ≡ loading o list file lent
-          refused-events other = go (blocking o (lent .special) (lent .journal) (lent .records)) refl (m .answer)
+          refused-events other = go (blocking o (lent .special) (lent .journal) (lent .records) (lent .codes)) refl (m .answer)
             where
-              go : (t : Attempt (ℕ → Bool)) → blocking o (lent .special) (lent .journal) (lent .records) ≡ t → x ≡ refusalOf t → loaded x 0 list file ≡ loading o list file lent
+              go : (t : Attempt (ℕ → Bool)) → blocking o (lent .special) (lent .journal) (lent .records) (lent .codes) ≡ t → x ≡ refusalOf t → loaded x 0 list file ≡ loading o list file lent
               go (got b) e h = absurd (other (ap (λ (r : Refusal). r .number) h))
               go (stopped y) e h = refused-attempt x (e ∙ ap stopped (sym h))
 
@@ -173,10 +174,10 @@ module _ (o : Order) (list file : List ℕ) (lent : Lent) where
             pub refused-contract : (y : Refusal) → contractRead (o .kind) (lent .new) ≡ Refused y → loaded y 0 list file ≡ loading o list file lent
             unfolding placing
             refused-contract y e =
-                let (blocked, events, placed) = place-marked (blocking-stops o (lent .special) (lent .journal) (lent .records)) m quiet in
+                let (blocked, events, placed) = place-marked (blocking-stops o (lent .special) (lent .journal) (lent .records) (lent .codes)) m quiet in
                 rw (read-all, ← same, eq-eqb _ _ reads, events, e)
 
-            named-place : (c : Contract) (blocked : ℕ → Bool) (p : ℕ) → blocking o (lent .special) (lent .journal) (lent .records) ≡ got blocked
+            named-place : (c : Contract) (blocked : ℕ → Bool) (p : ℕ) → blocking o (lent .special) (lent .journal) (lent .records) (lent .codes) ≡ got blocked
                 → contractRead (o .kind) (lent .new) ≡ Read c → ((i : ℕ) → getD (lent .new) i 0 < 2 ^ 8)
                 → p ≡ place blocked (o .n) (o .c) (o .counter) (counted (r .list))
                 → stored o list file (r .list) c p ≡ loading o list file lent
@@ -205,5 +206,5 @@ module _ (o : Order) (list file : List ℕ) (lent : Lent) where
                 → p ≡ place (marked marks) (o .n) (o .c) (o .counter) (counted (r .list))
                 → stored o list file (r .list) c p ≡ loading o list file lent
             loads c p e small named =
-                let (blocked, events, same-place) = place-marked (blocking-stops o (lent .special) (lent .journal) (lent .records)) m quiet in
+                let (blocked, events, same-place) = place-marked (blocking-stops o (lent .special) (lent .journal) (lent .records) (lent .codes)) m quiet in
                 named-place c blocked p events e small (named ∙ same-place (o .n) (o .c) (o .counter) (counted (r .list)) (card .most) (card .counters))

@@ -98,7 +98,7 @@ pub record AllRead (o : Order) (list file : List ℕ) (lent : Lent) : Type 0 whe
   pub l : ContractList
   pub reads : listRead (o .n) list ≡ gotList l
   pub blocked : ℕ → Bool
-  pub events : blocking o (lent .special) (lent .journal) (lent .records) ≡ got blocked
+  pub events : blocking o (lent .special) (lent .journal) (lent .records) (lent .codes) ≡ got blocked
   pub new : Contract
   pub contract : contractRead (o .kind) (lent .new) ≡ Read new
 
@@ -136,7 +136,7 @@ unfolding finding placing
 finding-ended o list file lent =
     go (lengths o (lengthsOf list file lent)) refl (limits o (length (lent .journal) / 29)) refl
     (attempted (listRead (o .n) list)) refl (list-stops (o .n) list)
-    (blocking o (lent .special) (lent .journal) (lent .records)) refl (blocking-stops o (lent .special) (lent .journal) (lent .records))
+    (blocking o (lent .special) (lent .journal) (lent .records) (lent .codes)) refl (blocking-stops o (lent .special) (lent .journal) (lent .records) (lent .codes))
     (contractGot (contractRead (o .kind) (lent .new))) refl (contract-stops (o .kind) (lent .new))
   where
     named : (a : AllRead o list file lent) (t : Bool) → eqb (namedBy a) 0 ≡ t
@@ -146,7 +146,7 @@ finding-ended o list file lent =
 
     go : (a : Bool) → lengths o (lengthsOf list file lent) ≡ a → (b : Bool) → limits o (length (lent .journal) / 29) ≡ b
         → (t : Attempt ContractList) → attempted (listRead (o .n) list) ≡ t → Stops t
-        → (u : Attempt (ℕ → Bool)) → blocking o (lent .special) (lent .journal) (lent .records) ≡ u → Stops u
+        → (u : Attempt (ℕ → Bool)) → blocking o (lent .special) (lent .journal) (lent .records) (lent .codes) ≡ u → Stops u
         → (w : Attempt Contract) → contractGot (contractRead (o .kind) (lent .new)) ≡ w → Stops w
         → Ended o list file lent
         (needs a 1 (needs b 11 (next t (λ l. next u (λ blocked. next w (λ new. found (counted l) (place blocked (o .n) (o .c) (o .counter) (counted l))))))))

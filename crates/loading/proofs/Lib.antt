@@ -5,4 +5,5 @@ pub mod Marks
 pub mod Placing
 pub mod Storing
 pub mod Ending
+pub mod Journeys
 pub mod Laws

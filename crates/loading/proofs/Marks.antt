@@ -135,23 +135,23 @@ pub part-read : (file : List ℕ) (i : ℕ) {r x : EventRead} → eventTold r �
 part-read file i e f = let size : 29 * i + 29 - 29 * i ≡ 29 = omega arith in sym (event-one _ _ (rw size at e)) ∙ f
 
 -- The time, in other words.
-pub at-time : (attempt : Attempt (List Event)) {time moment : ℕ} (hours : ℕ) {before after : List Bool} {r : Refusal} → time ≡ moment
-    → Marking attempt (λ es p. some (blocks time hours p) es) before after r
-    → Marking attempt (λ es p. some (blocks moment hours p) es) before after r
-at-time attempt {time} {moment} hours {before} {after} {r} e m =
-    subst (λ (t : ℕ). Marking attempt (λ es p. some (blocks t hours p) es) before after r) e m
+pub at-time : (attempt : Attempt (List Event)) (codes : List ℕ) {time moment : ℕ} (hours : ℕ) {before after : List Bool} {r : Refusal} → time ≡ moment
+    → Marking attempt (λ es p. some (blocks codes time hours p) es) before after r
+    → Marking attempt (λ es p. some (blocks codes moment hours p) es) before after r
+at-time attempt codes {time} {moment} hours {before} {after} {r} e m =
+    subst (λ (t : ℕ). Marking attempt (λ es p. some (blocks codes t hours p) es) before after r) e m
 
-module _ (o : Order) (special journal records : List ℕ) {r : SpecialRead} (read : r ≡ specialRead (o .s) special) {before : List Bool} where
+module _ (o : Order) (special journal records codes : List ℕ) {r : SpecialRead} (read : r ≡ specialRead (o .s) special) {before : List Bool} where
   -- The special event list is refused.
-  pub blocking-unlisted : (r .refusal .number ≡ 0 → ⊥) → Marking (blocking o special journal records) (λ b. b) before before (r .refusal)
+  pub blocking-unlisted : (r .refusal .number ≡ 0 → ⊥) → Marking (blocking o special journal records codes) (λ b. b) before before (r .refusal)
   unfolding blocking
   blocking-unlisted bad =
       rw (← read, ne-eqb (r .refusal .number) 0 bad) record { answer = refl; long = refl; marks = λ b same. absurd (apart same) }
 
   module _ (good : r .refusal .number ≡ 0) {mid : List Bool} {s : Refusal}
-      (past : Marking (events (length journal / 29) journal 0) (λ es p. some (blocks (moment (o .day) (o .minute)) (o .hours) p) es) before mid s) where
+      (past : Marking (events (length journal / 29) journal 0) (λ es p. some (blocks codes (moment (o .day) (o .minute)) (o .hours) p) es) before mid s) where
     -- An event of the journal is refused.
-    pub blocking-unread : (s .number ≡ 0 → ⊥) → Marking (blocking o special journal records) (λ b. b) before mid s
+    pub blocking-unread : (s .number ≡ 0 → ⊥) → Marking (blocking o special journal records codes) (λ b. b) before mid s
     unfolding blocking
     blocking-unread bad = rw (← read, eq-eqb (r .refusal .number) 0 good) (go _ (events (length journal / 29) journal 0) past)
       where
@@ -163,7 +163,7 @@ module _ (o : Order) (special journal records : List ℕ) {r : SpecialRead} (rea
     -- The journal is read, and the special event records too or not.
     pub blocking-read : {after : List Bool} {t : Refusal} → s .number ≡ 0 → length records ≡ 29 * o .s
         → Marking (events (length records / 29) records 0) (λ es p. namedBySpecial (take (r .list .count) (r .list .entries)) p 1 es) mid after t
-        → Marking (blocking o special journal records) (λ b. b) before after t
+        → Marking (blocking o special journal records codes) (λ b. b) before after t
     unfolding blocking
     blocking-read {after} {t} fine sized last =
         let n : length records / 29 ≡ o .s = omega arith in
@@ -171,9 +171,9 @@ module _ (o : Order) (special journal records : List ℕ) {r : SpecialRead} (rea
         (go (events (length journal / 29) journal 0) (events-stop (length journal / 29) journal 0) past (events (o .s) records 0) (rw n at last))
       where
         go : (j : Attempt (List Event)) → Stops j
-            → Marking j (λ es p. some (blocks (moment (o .day) (o .minute)) (o .hours) p) es) before mid s
+            → Marking j (λ es p. some (blocks codes (moment (o .day) (o .minute)) (o .hours) p) es) before mid s
             → (k : Attempt (List Event)) → Marking k (λ es p. namedBySpecial (take (r .list .count) (r .list .entries)) p 1 es) mid after t
-            → Marking (next j (λ es. next k (λ fs. got (blocked (moment (o .day) (o .minute)) (o .hours) es (take (r .list .count) (r .list .entries)) fs)))) (λ b. b) before after t
+            → Marking (next j (λ es. next k (λ fs. got (blocked codes (moment (o .day) (o .minute)) (o .hours) es (take (r .list .count) (r .list .entries)) fs)))) (λ b. b) before after t
         go (stopped x) told first k second = absurd (told .some (sym (ap (λ (y : Refusal). y .number) (first .answer)) ∙ fine))
         go (got es) told first (stopped x) second =
             record { answer = second .answer; long = second .long ∙ first .long; marks = λ b same. absurd (apart same) }
@@ -181,9 +181,9 @@ module _ (o : Order) (special journal records : List ℕ) {r : SpecialRead} (rea
             record {
               answer = second .answer;
               long = second .long ∙ first .long;
-              marks = λ b same. let this : b ≡ blocked (moment (o .day) (o .minute)) (o .hours) es (take (r .list .count) (r .list .entries)) fs = cc in
+              marks = λ b same. let this : b ≡ blocked codes (moment (o .day) (o .minute)) (o .hours) es (take (r .list .count) (r .list .entries)) fs = cc in
                   rw this record {
                     long = second .long ∙ first .long;
-                    each = λ p few. second .marks fs refl .each p few ∙ rw (first .marks es refl .each p few, or-assoc (marked before p) (some (blocks (moment (o .day) (o .minute)) (o .hours) p) es) (namedBySpecial (take (r .list .count) (r .list .entries)) p 1 fs));
+                    each = λ p few. second .marks fs refl .each p few ∙ rw (first .marks es refl .each p few, or-assoc (marked before p) (some (blocks codes (moment (o .day) (o .minute)) (o .hours) p) es) (namedBySpecial (take (r .list .count) (r .list .entries)) p 1 fs));
                   };
             }

@@ -70,9 +70,9 @@ specials-stop s bytes = comes-stops specials (λ l. tt) (λ r why. rw (ne-eqb _ 
 pub contract-stops : (kind : ℕ) (bytes : List ℕ) → Stops (contractGot (contractRead kind bytes))
 contract-stops kind bytes = comes-stops contractGot (λ c. tt) (λ r why. why) (contract-comes kind bytes) refl
 
-pub blocking-stops : (o : Order) (special journal records : List ℕ) → Stops (blocking o special journal records)
+pub blocking-stops : (o : Order) (special journal records codes : List ℕ) → Stops (blocking o special journal records codes)
 unfolding blocking
-blocking-stops o special journal records =
+blocking-stops o special journal records codes =
     next-stops (specials (specialRead (o .s) special)) _ (specials-stop (o .s) special)
     (λ entries. next-stops (events (length journal / 29) journal 0) _ (events-stop (length journal / 29) journal 0)
     (λ es. next-stops (events (o .s) records 0) _ (events-stop (o .s) records 0) (λ fs. tt)))

@@ -1,8 +1,10 @@
--- Which pointers the events block. Document 01, "Where a new contract goes".
-use Prim.Native.Nat.{ℕ, suc, _+_, _-_, _*_}
+-- Which pointers the events block. Document 01, "Where a new contract goes"; 02, Q-3.
+use Prim.Native.Nat.{ℕ, suc, _+_, _-_, _*_, _/_, _^_}
 use mathlib.Core.Bool.{Bool, false, _&&_, _||_}
 use mathlib.Core.List.{List, [], _∷_}
 use lib.Dec.{eqb, ltb}
+use lib.ListN.{getD}
+use Rattle.bits.specs.Bits.{odd, spread}
 use Rattle.records.specs.declared.event.Event.{Event}
 use Rattle.lists.specs.declared.special.SpecialEntry.{SpecialEntry}
 
@@ -21,9 +23,13 @@ names pointer e = eqb (e .pointer) pointer
 abbrev pub recent : ℕ → ℕ → Event → Bool
 recent now hours e = ltb now (moment (e .date) (e .minute)) || ltb (now - moment (e .date) (e .minute)) (60 * hours)
 
--- A journal event blocks a pointer.
-abbrev pub blocks : ℕ → ℕ → ℕ → Event → Bool
-blocks now hours pointer e = names pointer e && recent now hours e
+-- The event has a code, element [2], and that code is marked: its bit is one. Bit 0 is that of code 0.
+abbrev pub journey : List ℕ → Event → Bool
+journey codes e = odd (e .bitmap / 2 ^ 2) && getD (spread 8 codes) (e .code) false
+
+-- A journal event blocks a pointer. An inspection does not, whatever it names.
+abbrev pub blocks : List ℕ → ℕ → ℕ → ℕ → Event → Bool
+blocks codes now hours pointer e = names pointer e && (journey codes e && recent now hours e)
 
 -- Whether special event record k is listed.
 abbrev pub listed : List SpecialEntry → ℕ → Bool
@@ -36,6 +42,6 @@ namedBySpecial entries pointer k (e ∷ records) =
     (names pointer e && listed entries k) || namedBySpecial entries pointer (suc k) records
 
 -- A pointer is blocked by the journal, or by the special events.
-abbrev pub blocked : ℕ → ℕ → List Event → List SpecialEntry → List Event → ℕ → Bool
-blocked now hours journal entries records pointer =
-    some (blocks now hours pointer) journal || namedBySpecial entries pointer 1 records
+abbrev pub blocked : List ℕ → ℕ → ℕ → List Event → List SpecialEntry → List Event → ℕ → Bool
+blocked codes now hours journal entries records pointer =
+    some (blocks codes now hours pointer) journal || namedBySpecial entries pointer 1 records

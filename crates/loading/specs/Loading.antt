@@ -1,4 +1,4 @@
--- Loading, over bytes. Document 01, "Where a new contract goes" and "Refusal numbers".
+-- Loading, over bytes. Document 01, "Where a new contract goes" and "Refusal numbers"; 02, Q-3.
 use Prim.Native.Nat.{ℕ, _+_, _-_, _*_, _/_, _%_, _^_}
 use mathlib.Core.Bool.{Bool, not, _&&_}
 use mathlib.Core.List.{List, _++_}
@@ -24,12 +24,13 @@ use Rattle.loading.specs.declared.Order.{Order}
 use Rattle.loading.specs.declared.Loaded.{Loaded}
 use Rattle.loading.specs.declared.Lengths.{Lengths}
 
--- What is lent and only read: special event list, journal, special event records, new contract record.
+-- What is lent and only read: special event list, journal, special event records, new contract record, a bit for each event code.
 pub record Lent : Type 0 where
   pub special : List ℕ
   pub journal : List ℕ
   pub records : List ℕ
   pub new : List ℕ
+  pub codes : List ℕ
 
 -- The lengths of all that is lent agree with the card.
 abbrev pub lengths : Order → Lengths → Bool
@@ -40,6 +41,7 @@ lengths o l =
     && eqb (l .journal % 29) 0
     && eqb (l .records) (29 * o .s)
     && eqb (l .new) 29
+    && eqb (l .codes) 32
 
 -- A network that is absent is zero.
 abbrev pub networkFits : Order → Bool
@@ -73,12 +75,12 @@ contractGot (Read c) = got c
 contractGot (Refused r) = stopped r
 
 -- The pointers that are blocked, all events read: the special event list, the journal, then all special event records.
-unfoldable pub blocking : Order → List ℕ → List ℕ → List ℕ → Attempt (ℕ → Bool)
-blocking o special journal records =
+unfoldable pub blocking : Order → List ℕ → List ℕ → List ℕ → List ℕ → Attempt (ℕ → Bool)
+blocking o special journal records codes =
     next (specials (specialRead (o .s) special))
     (λ entries. next (events (length journal / 29) journal 0)
     (λ past. next (events (o .s) records 0)
-    (λ special-events. got (blocked (moment (o .day) (o .minute)) (o .hours) past entries special-events))))
+    (λ special-events. got (blocked codes (moment (o .day) (o .minute)) (o .hours) past entries special-events))))
 
 -- The new entry, with a network or without, which then is zero.
 abbrev pub newEntry : Order → ℕ → Entry
@@ -109,7 +111,7 @@ found es pointer = needs (not (eqb pointer 0)) 9 (got (record { entries = es; po
 unfoldable pub placing : Order → List ℕ → Lent → Attempt Found
 placing o list lent =
     next (attempted (listRead (o .n) list))
-    (λ l. next (blocking o (lent .special) (lent .journal) (lent .records))
+    (λ l. next (blocking o (lent .special) (lent .journal) (lent .records) (lent .codes))
     (λ is-blocked. next (contractGot (contractRead (o .kind) (lent .new)))
     (λ new. found (counted l) (place is-blocked (o .n) (o .c) (o .counter) (counted l)))))
 
@@ -122,6 +124,7 @@ lengthsOf list file lent =
       journal = length (lent .journal);
       records = length (lent .records);
       new = length (lent .new);
+      codes = length (lent .codes);
     }
 
 -- The refusals, all but the last.

@@ -5,7 +5,7 @@ ghost use Prim.Native.Nat.{_*_, _/_};
 ghost use lib.Dec.{eqb};
 ghost use lib.ListN.{length, take};
 ghost use Rattle.records.specs.Order.{events};
-ghost use Rattle.loading.specs.Blocking.{some, moment, recent, blocks, listed, namedBySpecial};
+ghost use Rattle.loading.specs.Blocking.{some, moment, journey, recent, blocks, listed, namedBySpecial};
 ghost use Rattle.loading.specs.Loading.{blocking};
 ghost use Rattle.loading.specs.inner.Marks.{Added, Marking};
 use crate::Order;
@@ -23,33 +23,37 @@ pub fn mark_all(
     special: &[u8],
     journal: &[u8],
     records: &[u8],
+    codes: &[u8],
     order: Order,
     marks: &mut [bool],
 ) -> Refusal
     requires { ⌜ (length (now marks) ≡ 9) × (length (now records) ≡ 29 * order .s) ⌝ }
-    ensures { λ r. ⌜ Marking (blocking order (now (special .entry)) (now (journal .entry)) (now (records .entry))) (λ blocked. blocked) (now (marks .entry)) (now (marks .exit)) r ⌝ }
+    ensures { λ r. ⌜ Marking (blocking order (now (special .entry)) (now (journal .entry)) (now (records .entry)) (now (codes .entry))) (λ blocked. blocked) (now (marks .entry)) (now (marks .exit)) r ⌝ }
 {
     let read = special::read(special, order.s);
     if read.refusal.number != 0 {
         return read.refusal;
     }
     let time = moment(order.day, order.minute);
-    let refusal = mark_journal(journal, time, order.hours, marks);
+    let refusal = mark_journal(journal, codes, time, order.hours, marks);
     if refusal.number != 0 {
         return refusal;
     }
     mark_special(records, read.list, marks)
 }
 
-fn mark_journal(journal: &[u8], time: u64, hours: u32, marks: &mut [bool]) -> Refusal
+fn mark_journal(journal: &[u8], codes: &[u8], time: u64, hours: u32, marks: &mut [bool]) -> Refusal
     requires { ⌜ length (now marks) ≡ 9 ⌝ }
-    ensures { λ r. ⌜ Marking (events (length (now (journal .entry)) / 29) (now (journal .entry)) 0) (λ es p. some (blocks time hours p) es) (now (marks .entry)) (now (marks .exit)) r ⌝ }
+    ensures { λ r. ⌜ Marking (events (length (now (journal .entry)) / 29) (now (journal .entry)) 0) (λ es p. some (blocks (now (codes .entry)) time hours p) es) (now (marks .entry)) (now (marks .exit)) r ⌝ }
 {
     let n = journal.len() / BYTES;
     let mut i = 0;
     while i < n {
         match event::read(&journal[BYTES * i..BYTES * i + BYTES]) {
-            EventRead::Read(event) => mark(event.pointer, recent(event, time, hours), marks),
+            EventRead::Read(event) => {
+                let blocks = journey(event, codes) & recent(event, time, hours);
+                mark(event.pointer, blocks, marks);
+            }
             EventRead::Refused(refusal) => return refusal,
         }
         i += 1;
@@ -91,6 +95,14 @@ fn moment(day: u32, minute: u32) -> u64
     ensures { λ r. ⌜ r ≡ moment day minute ⌝ }
 {
     day as u64 * 1440 + minute as u64
+}
+
+// Whether the event has a code, element [2], that is marked: an inspection, or one without a code, blocks nothing.
+fn journey(event: Event, codes: &[u8]) -> bool
+    ensures { λ r. ⌜ r ≡ journey (now (codes .entry)) event ⌝ }
+{
+    let coded = (event.bitmap >> 2) % 2 == 1;
+    coded & bits::is_one(codes, event.code)
 }
 
 // Later than the time now, or less than so many hours old. A clock set back frees nothing.

@@ -6,7 +6,7 @@ ghost use mathlib.Core.Path.{_≡_};
 ghost use Prim.Native.Nat.{_*_, _≤_};
 ghost use lib.ListN.{length};
 ghost use Rattle.loading.specs.inner.Store.{stored};
-ghost use Rattle.loading.specs.Loading.{Lent, Outcome, lengths, networkFits, entryFits, limits, newEntry, loading};
+ghost use Rattle.loading.specs.Loading.{Lent, Outcome, lengths, lengthsOf, networkFits, entryFits, limits, newEntry, loading};
 ghost use Rattle.loading.specs.inner.Unread.{unread};
 use contract::Contract;
 use contract::ContractRead;
@@ -54,6 +54,7 @@ struct Lengths {
     journal: usize,
     records: usize,
     new: usize,
+    codes: usize,
 }
 
 impl Order {
@@ -61,6 +62,9 @@ impl Order {
     pub const MOST_COUNTERS: u32 = 4;
 
     pub const MOST_HOURS: u32 = 255;
+
+    // A bit for each event code.
+    pub const CODE_BYTES: usize = 32;
 
     // The refusal that needs no reading: 1, 11, or none.
     fn refused_unread(self, lent: Lengths) -> Refusal
@@ -84,6 +88,7 @@ impl Order {
             & (lent.journal % BYTES == 0)
             & (lent.records == BYTES * self.s as usize)
             & (lent.new == BYTES)
+            & (lent.codes == Order::CODE_BYTES)
     }
 
     fn in_limits(self, journal: usize) -> bool
@@ -132,6 +137,30 @@ impl Order {
     }
 }
 
+impl Lengths {
+    fn of(
+        list: &[u8],
+        file: &[u8],
+        special: &[u8],
+        journal: &[u8],
+        records: &[u8],
+        new: &[u8],
+        codes: &[u8],
+    ) -> Lengths
+        ensures { λ r. ⌜ r ≡ lengthsOf (now (list .entry)) (now (file .entry)) (record { special = now (special .entry); journal = now (journal .entry); records = now (records .entry); new = now (new .entry); codes = now (codes .entry) }) ⌝ }
+    {
+        Lengths {
+            list: list.len(),
+            file: file.len(),
+            special: special.len(),
+            journal: journal.len(),
+            records: records.len(),
+            new: new.len(),
+            codes: codes.len(),
+        }
+    }
+}
+
 impl Loaded {
     fn refused(refusal: Refusal) -> Loaded
         ensures { λ r. ⌜ r ≡ record { refusal = refusal; pointer = 0 } ⌝ }
@@ -144,6 +173,7 @@ impl Loaded {
 }
 
 // Finds the place for a new contract, writes it there, and its entry to the contract list. Refused, both are as they were.
+// The codes are 32 bytes, a bit for each event code, bit 0 for code 0: a journal event blocks only where its code's is one.
 pub fn load(
     list: &mut [u8],
     file: &mut [u8],
@@ -151,19 +181,13 @@ pub fn load(
     journal: &[u8],
     records: &[u8],
     new: &[u8],
+    codes: &[u8],
     order: Order,
 ) -> Loaded
     ensures { λ r. ⌜ record { answer = r; list = now (list .exit); file = now (file .exit) }
-        ≡ loading order (now (list .entry)) (now (file .entry)) (record { special = now (special .entry); journal = now (journal .entry); records = now (records .entry); new = now (new .entry) }) ⌝ }
+        ≡ loading order (now (list .entry)) (now (file .entry)) (record { special = now (special .entry); journal = now (journal .entry); records = now (records .entry); new = now (new .entry); codes = now (codes .entry) }) ⌝ }
 {
-    let lent = Lengths {
-        list: list.len(),
-        file: file.len(),
-        special: special.len(),
-        journal: journal.len(),
-        records: records.len(),
-        new: new.len(),
-    };
+    let lent = Lengths::of(list, file, special, journal, records, new, codes);
     let unread = order.refused_unread(lent);
     if unread.number != 0 {
         return Loaded::refused(unread);
@@ -173,7 +197,7 @@ pub fn load(
         return Loaded::refused(read.refusal);
     }
     let mut marks = [false; 9];
-    let refusal = blocking::mark_all(special, journal, records, order, &mut marks);
+    let refusal = blocking::mark_all(special, journal, records, codes, order, &mut marks);
     if refusal.number != 0 {
         return Loaded::refused(refusal);
     }

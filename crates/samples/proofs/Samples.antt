@@ -23,6 +23,8 @@ samples-hold =
     & refl & refl & refl & refl
     -- P11 to P13
     & refl & refl & refl & refl
+    -- Q-3
+    & refl & refl & refl & refl & refl & refl & refl
     -- slips
     & (refl, refl) & refl
     -- 004

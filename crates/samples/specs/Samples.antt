@@ -1,6 +1,6 @@
 -- Samples: what the papers give as examples, one list of statements about the definitions. Document 01, "Samples at the edges" and
--- "Slips that look right"; 02, Q-7; 004 sections 7.2.3, 7.7 and 7.8.
-use Prim.Native.Nat.{ℕ, zero, suc, _+_, _*_, _/_, _%_, _^_}
+-- "Slips that look right"; 02, Q-3 and Q-7; 004 sections 7.2.3, 7.7 and 7.8.
+use Prim.Native.Nat.{ℕ, zero, suc, _+_, _-_, _*_, _/_, _%_, _^_}
 use mathlib.Core.Bool.{Bool, true, false, _&&_}
 use mathlib.Core.List.{List, [], _∷_, _++_, map}
 use mathlib.Core.Path.{_≡_}
@@ -45,9 +45,29 @@ entry key kind priority pointer =
 abbrev eventBytes : ℕ → ℕ → ℕ → List ℕ
 eventBytes date minute bitmap = cut 8 8 29 (bitsOf 14 date ++ (bitsOf 11 minute ++ bitsOf 28 bitmap))
 
--- An event that names a pointer, element [25].
-abbrev naming : ℕ → ℕ → ℕ → Event
-naming pointer date minute = eventOf (date ∷ minute ∷ 2 ^ 25 ∷ (replicate 25 0 ++ (pointer ∷ []))) []
+-- An event that names pointer 1, element [25], without a code.
+abbrev codeless : ℕ → ℕ → Event
+codeless date minute = eventOf (date ∷ minute ∷ 2 ^ 25 ∷ (replicate 25 0 ++ (1 ∷ []))) []
+
+-- And one with a code, element [2].
+abbrev coded : ℕ → ℕ → ℕ → Event
+coded code date minute =
+    eventOf (date ∷ minute ∷ (2 ^ 25 + 2 ^ 2) ∷ 0 ∷ 0 ∷ code ∷ (replicate 22 0 ++ (1 ∷ []))) []
+
+-- The same event's record.
+abbrev codedBytes : ℕ → ℕ → ℕ → List ℕ
+codedBytes code date minute =
+    cut 8 8 29 (bitsOf 14 date ++ (bitsOf 11 minute ++ (bitsOf 28 (2 ^ 25 + 2 ^ 2) ++ (bitsOf 8 code ++ bitsOf 5 1))))
+
+-- The 32 bytes in which just one code is marked; all; all but one.
+abbrev marking : ℕ → List ℕ
+marking code = bytesOn 32 (2 ^ (255 - code)) []
+
+abbrev markingAll : List ℕ
+markingAll = replicate 32 255
+
+abbrev markingOthers : ℕ → List ℕ
+markingOthers code = bytesOn 32 (2 ^ 256 - 1 - 2 ^ (255 - code)) []
 
 -- The bits of a 50h contract whose head has provider, tariff and status, with a bitmap of groups: all else zeros.
 abbrev urbanBits : ℕ → List Bool
@@ -84,8 +104,8 @@ pub data Case : Type 0 where
   marginWritten : (margin before : List ℕ) → Written → Case
   -- the write from present to wanted, in a record that was so before
   finds : (present wanted before : List ℕ) → Written → Case
-  -- with so many hours, an event of this day and minute blocks at that day and minute, or not
-  blocksAt : (hours day minute nowDay nowMinute : ℕ) → Bool → Case
+  -- with these codes marked and so many hours, a journal event blocks the pointer that it names, 1, at a day and minute, or not
+  blocksAt : (codes : List ℕ) → Event → (hours nowDay nowMinute : ℕ) → Bool → Case
   -- of the entries that a test accepts, this one is chosen
   chooses : (Entry → Bool) → List Entry → Selected → Case
 
@@ -98,7 +118,7 @@ Holds (eventReads date minute bitmap answer) = eventRead (eventBytes date minute
 Holds (bytesRead bytes answer) = eventRead bytes ≡ answer
 Holds (marginWritten margin before answer) = eventWritten before (eventOf [] margin) ≡ answer
 Holds (finds present wanted before answer) = finding present wanted before ≡ answer
-Holds (blocksAt hours day minute nowDay nowMinute answer) = blocks (moment nowDay nowMinute) hours 1 (naming 1 day minute) ≡ answer
+Holds (blocksAt codes e hours nowDay nowMinute answer) = blocks codes (moment nowDay nowMinute) hours 1 e ≡ answer
 Holds (chooses test es answer) = choose test 1 nobody es ≡ answer
 
 -- P2's list, and that of 004's card of four.
@@ -120,17 +140,18 @@ list7 five six seven eight =
 abbrev list8 : List Entry
 list8 = list7 15 15 15 15 ++ (entry 2 0x05 15 4 ∷ [])
 
--- P3's order, on a day, with a counter or without.
-abbrev order3 : Bool → Order
-order3 counter =
+-- An order on a card of n records, c of them with counter: on a day, a contract of type 42h and priority 6 with this key, with
+-- a counter or without.
+abbrev order : ℕ → ℕ → ℕ → Bool → Order
+order n c key counter =
     record {
-      n = 4;
-      c = 4;
+      n = n;
+      c = c;
       s = 0;
       day = 100;
       minute = 60;
       hours = 24;
-      key = 2;
+      key = key;
       kind = 0x42;
       priority = 6;
       «has_network» = false;
@@ -138,8 +159,10 @@ order3 counter =
       counter = counter;
     }
 
-abbrev lent3 : Lent
-lent3 = record { special = 0 and 58 zeros; journal = []; records = []; new = 0 and 58 zeros }
+-- A contract of zeros for a card with this journal, no special events, and these codes marked.
+abbrev lent : List ℕ → List ℕ → Lent
+lent journal codes =
+    record { special = 0 and 58 zeros; journal = journal; records = []; new = 0 and 58 zeros; codes = codes }
 
 abbrev left3 : Left
 left3 = loaded (refusal 0 0) 4 (0x4C020C1C42122C40BE3C484C4 and 33 zeros) (replicate 87 255 ++ replicate 29 0)
@@ -152,8 +175,8 @@ samples =
     ∷ listReads 4 (0x3C020C1C42122C40BE3 and 39 zeros) (gotList (listing list2))
     -- P3 load on P2's card, C = 4, entry 2 42h 6 with a 42h record of zeros, no events: pointer 4, list
     -- 4C020C1C42122C40BE3C484C4 and 33 zero digits. Here with a contract file of bytes FFh before.
-    ∷ loads (order3 true) (0x3C020C1C42122C40BE3 and 39 zeros) (replicate 116 255) lent3 left3
-    ∷ loads (order3 false) (0x3C020C1C42122C40BE3 and 39 zeros) (replicate 116 255) lent3 left3
+    ∷ loads (order 4 4 2 true) (0x3C020C1C42122C40BE3 and 39 zeros) (replicate 116 255) (lent [] markingAll) left3
+    ∷ loads (order 4 4 2 false) (0x3C020C1C42122C40BE3 and 39 zeros) (replicate 116 255) (lent [] markingAll) left3
     -- P4 N = 8, C = 4, pointers listed 1 2 5 3 6 7 8 4, with 4 to 8 erasable. Without counter: pointer 5, then 1 2 3 6 7 8 4 5.
     ∷ places 8 4 false list8 5 (1 ∷ 2 ∷ 3 ∷ 6 ∷ 7 ∷ 8 ∷ 4 ∷ 5 ∷ [])
     -- P5 with counter: pointer 4.
@@ -181,9 +204,23 @@ samples =
     ∷ finds (0x05 and 56 zeros) (0x07 and 56 zeros) (replicate 29 255) (accepted (0x02 and 56 zeros))
     -- P12 05h to 06h: 10, place 7.
     ∷ finds (0x05 and 56 zeros) (0x06 and 56 zeros) (replicate 29 255) (denied (refusal 10 7) (replicate 29 255))
-    -- P13 one hour, event day 100 minute 60: blocked at minute 119, free at 120.
-    ∷ blocksAt 1 100 60 100 119 true
-    ∷ blocksAt 1 100 60 100 120 false
+    -- P13 one hour, event day 100 minute 60: blocked at minute 119, free at 120. By 02, Q-3, the event's code is marked.
+    ∷ blocksAt (marking 20) (coded 20 100 60) 1 100 119 true
+    ∷ blocksAt (marking 20) (coded 20 100 60) 1 100 120 false
+    -- 02, Q-3: the same event unmarked, and one without a code: free both times. Code 0 can block.
+    ∷ blocksAt (markingOthers 20) (coded 20 100 60) 1 100 119 false
+    ∷ blocksAt (markingOthers 20) (coded 20 100 60) 1 100 120 false
+    ∷ blocksAt markingAll (codeless 100 60) 1 100 119 false
+    ∷ blocksAt markingAll (codeless 100 60) 1 100 120 false
+    ∷ blocksAt (marking 0) (coded 0 100 60) 1 100 119 true
+    -- The demand behind it: an inspector's event names a used-up carnet, on a card of one contract, and the counter loads over it;
+    -- where it is a journey's, 9.
+    ∷ loads (order 1 0 0 false) (0x1C085E1 and 51 zeros) (replicate 29 255)
+    (lent (codedBytes 20 100 60) (markingOthers 20))
+    (loaded (refusal 0 0) 1 (0x1C084C1 and 51 zeros) (replicate 29 0))
+    ∷ loads (order 1 0 0 false) (0x1C085E1 and 51 zeros) (replicate 29 255)
+    (lent (codedBytes 20 100 60) (marking 20))
+    (loaded (refusal 9 0) 0 (0x1C085E1 and 51 zeros) (replicate 29 255))
     -- Slip: treating "oldest" as the lowest pointer: with pointers listed 1 2 7 3 5 6 8 4 and 5 to 8 erasable, the plain one to
     -- take is 7.
     ∷ places 8 4 false
@@ -199,7 +236,7 @@ samples =
     7
     (1 ∷ 2 ∷ 3 ∷ 5 ∷ 6 ∷ 8 ∷ 4 ∷ 7 ∷ [])
     -- Slip: a wrapping or absolute difference for event age, so that a clock set back frees a position.
-    ∷ blocksAt 1 100 60 98 60 true
+    ∷ blocksAt (marking 20) (coded 20 100 60) 1 98 60 true
     -- 004, 7.2.3: the fifth of the list, contract 6, is read first: it and the sixth have the highest priority, and it is before the
     -- sixth. 01 overrules: records of types 10h, 12h and 05h do not read, and no such entry is eligible. The test here is the rest:
     -- a usable priority and an accepted key.

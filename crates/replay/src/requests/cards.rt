@@ -50,42 +50,55 @@ pub fn priority(line: &[u8], from: Scan, list: &mut [u8], out: &mut [u8]) -> usi
 pub fn load(line: &[u8], from: Scan, list: &mut [u8], out: &mut [u8]) -> usize {
     let mut file = [0u8; BYTES];
     let mut special = [0u8; BYTES];
+    let mut journal = [0u8; BYTES];
     let second = scan::bytes(line, from, &mut file);
     let third = scan::bytes(line, second, &mut special);
+    let fourth = scan::bytes(line, third, &mut journal);
     let n = second.number as usize;
     let k = third.number as usize;
-    load_behind(line, third, list, &mut file[..n], &special[..k], out)
+    let j = fourth.number as usize;
+    load_behind(
+        line,
+        fourth,
+        list,
+        &mut file[..n],
+        &special[..k],
+        &journal[..j],
+        out,
+    )
 }
 
-// The request behind its first three parts.
+// The request behind its first four parts.
 fn load_behind(
     line: &[u8],
     from: Scan,
     list: &mut [u8],
     file: &mut [u8],
     special: &[u8],
+    journal: &[u8],
     out: &mut [u8],
 ) -> usize {
-    let mut journal = [0u8; BYTES];
     let mut records = [0u8; BYTES];
     let mut new = [0u8; BYTES];
-    let fourth = scan::bytes(line, from, &mut journal);
-    let fifth = scan::bytes(line, fourth, &mut records);
+    let mut codes = [0u8; BYTES];
+    let fifth = scan::bytes(line, from, &mut records);
     let sixth = scan::bytes(line, fifth, &mut new);
-    let given = take_order(line, sixth);
+    let seventh = scan::bytes(line, sixth, &mut codes);
+    let given = take_order(line, seventh);
     if !scan::ends(line, given.last) {
         return 0;
     }
-    let j = fourth.number as usize;
     let r = fifth.number as usize;
     let n = sixth.number as usize;
+    let c = seventh.number as usize;
     let loaded = loading::load(
         list,
         file,
         special,
-        &journal[..j],
+        journal,
         &records[..r],
         &new[..n],
+        &codes[..c],
         given.value,
     );
     let end = answer::refusal(out, loaded.refusal);
