@@ -13,6 +13,7 @@ use lib.Pow.{pow-pos, shr-shr, shl-exact}
 use borrow.Author.Tests.{eq-eqb, ne-eqb, eqb-true, eqb-false, le-leb, lt-leb, leb-true, leb-false, ltb-true, ltb-false}
 use Rattle.bits.specs.Bits.{odd}
 use Rattle.rows.specs.Row.{pick, among}
+use Rattle.rows.proofs.Margins.{both}
 use Rattle.lists.specs.Rules.{keeps, faultAfter, firstAtFault}
 use Rattle.lists.specs.inner.Judging.{Judges}
 use Rattle.lists.specs.declared.rules.Judged.{Judged}
@@ -198,11 +199,7 @@ module _ (full limit : ℕ) (bs ps : List ℕ) (j : Judged) (so-far : Judges ful
 
 -- What the test of an entry's elements and of its pointer's size says.
 pub test-both : (b full p : ℕ) → eqb (b / 2) full && ltb p 32 ≡ true → (b / 2 ≡ full) × (p < 32)
-test-both b full p h = go (eqb (b / 2) full) refl h
-  where
-    go : (t : Bool) → eqb (b / 2) full ≡ t → t && ltb p 32 ≡ true → (b / 2 ≡ full) × (p < 32)
-    go true e h = (eqb-true (b / 2) full e, ltb-true p 32 h)
-    go false e h = let z : _≡_ {A = ℕ} 0 1 = cc in absurd (omega arith)
+test-both b full p h = let (fills, small) = both _ _ h in (eqb-true _ _ fills, ltb-true _ _ small)
 
 -- Shifts of 1 and 2 in 32 bits.
 pub shifted : (p : ℕ) → p < 32 → 1 * 2 ^ p % 4294967296 ≡ 2 ^ p

@@ -1,7 +1,7 @@
 -- What is known of a contract list that was read: its entries keep the rule of lists.
 use Prim.Native.Nat.{ℕ, zero, suc, _+_, _/_, _≤_, _<_}
 use mathlib.Core.List.{List, [], _∷_, _++_, map, append-assoc, append-nil, List·Memᴰ, List·Memᴰ·head, List·Memᴰ·tail}
-use mathlib.Core.Bool.{Bool, true, false, _&&_, _||_, not, true≢false}
+use mathlib.Core.Bool.{Bool, true, false, _||_, not, true≢false}
 use mathlib.Core.Path.{_≡_, refl, sym, ap, _∙_}
 use native.Mathlib.Omega.{arith}
 use lib.Dec.{eqb, ltb, leb}
@@ -14,6 +14,7 @@ use Rattle.rows.specs.Walk.{Outcome, done, refused, andThen, readBare}
 use Rattle.rows.specs.table.BestContracts.{contractList}
 use Rattle.rows.proofs.RoundTrip.{bare-read}
 use Rattle.rows.proofs.Changing.{judged-read, passed}
+use Rattle.rows.proofs.Margins.{both}
 use Rattle.rows.proofs.Refusing.{bare-refused}
 use Rattle.records.specs.Answer.{refusal, answered}
 use Rattle.records.proofs.Coming.{ComesTo, fine, faulty}
@@ -42,13 +43,6 @@ full-at full [] i f h = absurd (omega arith)
 full-at full (b ∷ bs) zero f h = f .0
 full-at full (b ∷ bs) (suc i) f h = full-at full bs i (f .1) (omega arith)
 
-all-four : (a b c d : Bool) → (a && b && c && d) ≡ true → (a ≡ true) × (b ≡ true) × (c ≡ true) × (d ≡ true)
-all-four true true true true h = (refl, refl, refl, refl)
-all-four true true true false h = absurd (true≢false (sym h))
-all-four true true false d h = absurd (true≢false (sym h))
-all-four true false c d h = absurd (true≢false (sym h))
-all-four false b c d h = absurd (true≢false (sym h))
-
 -- Where no entry is at fault, each keeps the rule.
 none-at-fault : (full limit : ℕ) (before bs ps : List ℕ) → length bs ≡ length ps → faultAfter full limit before bs ps ≡ 0
     → Full full bs × Apart limit before ps
@@ -65,7 +59,9 @@ none-at-fault full limit before (b ∷ bs) (p ∷ ps) same h =
         → (rest ≡ 0 → Full full bs × Apart limit (before ++ (p ∷ [])) ps)
         → ((b / 2 ≡ full) × Full full bs) × ((1 ≤ p) × (p ≤ limit) × (among p before ≡ false) × Apart limit (before ++ (p ∷ [])) ps)
     go true e h more =
-        let (fills, low, high, new) = all-four (eqb (b / 2) full) (leb 1 p) (leb p limit) (not (among p before)) e in
+        let (up-to-high, new) = both _ _ e in
+        let (up-to-low, high) = both _ _ up-to-high in
+        let (fills, low) = both _ _ up-to-low in
         let (bitmaps, pointers) = more h in
         ((eqb-true _ _ fills, bitmaps), (leb-true _ _ low, leb-true _ _ high, not-true _ new, pointers))
     go false e h more = absurd (omega arith)

@@ -22,6 +22,7 @@ use Rattle.rows.specs.declared.Cursor.{Cursor}
 use Rattle.rows.specs.declared.When.the-variants.{Always, Bit}
 use Rattle.rows.specs.declared.Rule.the-variants.{Any, Most, Tariff}
 use Rattle.rows.proofs.Taking.{took-box-held, took-tariff-held, held-part, ended-refused}
+use Rattle.rows.proofs.Margins.{both}
 use Rattle.rows.proofs.Running.{takes-append, stopped, puts-append, Skips, skips-none, skips-more, skips-ended}
 use Rattle.rows.proofs.Stepping.{count-twice}
 use Rattle.rows.proofs.Tables.{list-rows}
@@ -100,12 +101,10 @@ admitted-there : (c : Cursor) (w : ℕ) → c .why ≡ 0 → c .at + w ≤ 232 �
 admitted-there c w clear room = rw (eq-eqb _ _ clear, le-ltb _ _ room)
 
 pub test-all : (marks why at : ℕ) → (eqb (marks / 2) 3 && eqb why 0) && leb at 211 ≡ true → (marks / 2 ≡ 3) × (why ≡ 0) × (at ≤ 211)
-test-all marks why at h = go (eqb (marks / 2) 3) refl (eqb why 0) refl h
-  where
-    go : (a : Bool) → eqb (marks / 2) 3 ≡ a → (b : Bool) → eqb why 0 ≡ b → (a && b) && leb at 211 ≡ true → (marks / 2 ≡ 3) × (why ≡ 0) × (at ≤ 211)
-    go true e true f h = (eqb-true (marks / 2) 3 e, eqb-true why 0 f, leb-true at 211 h)
-    go true e false f h = let z : _≡_ {A = ℕ} 0 1 = cc in absurd (omega arith)
-    go false e b f h = let z : _≡_ {A = ℕ} 0 1 = cc in absurd (omega arith)
+test-all marks why at h =
+    let (clear, room) = both _ _ h in
+    let (there, none) = both _ _ clear in
+    (eqb-true _ _ there, eqb-true _ _ none, leb-true _ _ room)
 
 pub rest-took : (words : List ℕ) (c : Cursor) (marks v : ℕ)
     → Ready words 232 c

@@ -1,6 +1,6 @@
 -- From each way out of loading's code to what loading means.
-use Prim.Native.Nat.{ℕ, suc, _-_, _*_, _/_, _%_, _^_, _≤_, _<_}
-use mathlib.Core.Bool.{Bool, true, false, not, _&&_, _||_, true≢false}
+use Prim.Native.Nat.{ℕ, suc, _-_, _*_, _/_, _^_, _≤_, _<_}
+use mathlib.Core.Bool.{Bool, true, false, not, _||_}
 use mathlib.Core.List.{List, [], _∷_, map, List·Memᴰ, List·Memᴰ·head, List·Memᴰ·tail}
 use mathlib.Core.Path.{_≡_, refl, sym, ap, _∙_}
 use mathlib.Core.Logic.{⊎-elim}
@@ -10,6 +10,7 @@ use lib.ListN.{length, getD, drop, length-map, length-drop, replicate}
 use lib.Seq.{length-take-le}
 use borrow.Author.Tests.{eq-eqb, ne-eqb, eqb-true, eqb-false, leb-true, not-true}
 use Rattle.rows.specs.Row.{pick, among}
+use Rattle.rows.proofs.Margins.{both}
 use Rattle.records.specs.Answer.{refusal, accepted}
 use Rattle.records.specs.Order.{Attempt, got, stopped, needs, recordFrom}
 use Rattle.records.specs.declared.Refusal.{Refusal}
@@ -33,30 +34,6 @@ use Rattle.loading.specs.inner.Store.{renewed, stored}
 use Rattle.loading.specs.declared.Order.{Order}
 use Rattle.loading.proofs.Placing.{Named, placed-free-or-erasable, place-marked}
 use Rattle.loading.proofs.Told.{blocking-stops}
-
--- What all of some tests tell of one.
-of-seven : (a b c d e f g : Bool) → (a && b && c && d && e && f && g) ≡ true → (a ≡ true) × (b ≡ true) × (e ≡ true) × (f ≡ true)
-of-seven true true true true true true true h = (refl, refl, refl, refl)
-of-seven true true true true true true false h = absurd (true≢false (sym h))
-of-seven true true true true true false g h = absurd (true≢false (sym h))
-of-seven true true true true false f g h = absurd (true≢false (sym h))
-of-seven true true true false e f g h = absurd (true≢false (sym h))
-of-seven true true false d e f g h = absurd (true≢false (sym h))
-of-seven true false c d e f g h = absurd (true≢false (sym h))
-of-seven false b c d e f g h = absurd (true≢false (sym h))
-
-of-ten : (a b c d e f g h i j : Bool) → (a && b && c && d && e && f && g && h && i && j) ≡ true → (b ≡ true) × (d ≡ true) × (j ≡ true)
-of-ten true true true true true true true true true true all = (refl, refl, refl)
-of-ten true true true true true true true true true false all = absurd (true≢false (sym all))
-of-ten true true true true true true true true false j all = absurd (true≢false (sym all))
-of-ten true true true true true true true false i j all = absurd (true≢false (sym all))
-of-ten true true true true true true false h i j all = absurd (true≢false (sym all))
-of-ten true true true true true false g h i j all = absurd (true≢false (sym all))
-of-ten true true true true false f g h i j all = absurd (true≢false (sym all))
-of-ten true true true false e f g h i j all = absurd (true≢false (sym all))
-of-ten true true false d e f g h i j all = absurd (true≢false (sym all))
-of-ten true false c d e f g h i j all = absurd (true≢false (sym all))
-of-ten false b c d e f g h i j all = absurd (true≢false (sym all))
 
 -- An entry that has the pointer leaves.
 leaves : (e : Entry) (es : List Entry) (p : ℕ) → List·Memᴰ e es → e .pointer ≡ p → length (without p es) < length es
@@ -107,26 +84,43 @@ pub record Card (o : Order) (list file : List ℕ) (lent : Lent) : Type 0 where
   pub entry-fits : entryFits o ≡ true
 
 module _ (o : Order) (list file : List ℕ) (lent : Lent) where
-  -- Where nothing is refused unread, lengths and limits agree.
+  -- What lengths and limits say of the card where they agree.
+  agreed : lengths o (lengthsOf list file lent) ≡ true → limits o (length (lent .journal) / 29) ≡ true → Card o list file lent
+  agreed l k =
+      let (to-new, codes-ok) = both _ _ l in
+      let (to-records, new-ok) = both _ _ to-new in
+      let (to-journal, records-ok) = both _ _ to-records in
+      let (to-special, journal-ok) = both _ _ to-journal in
+      let (to-file, special-ok) = both _ _ to-special in
+      let (list-ok, file-ok) = both _ _ to-file in
+      let (to-hours, entry-ok) = both _ (entryFits o) k in
+      let (to-minute, hours-ok) = both _ (leb (o .hours) 255) to-hours in
+      let (to-day, minute-ok) = both _ (leb (o .minute) 1439) to-minute in
+      let (to-events, day-ok) = both _ (leb (o .day) 16383) to-day in
+      let (to-specials, events-ok) = both _ (leb (length (lent .journal) / 29) 15) to-events in
+      let (to-counters, specials-ok) = both _ (leb (o .s) 4) to-specials in
+      let (to-most-counters, counters-ok) = both _ (leb (o .c) (o .n)) to-counters in
+      let (to-most, most-counters-ok) = both _ (leb (o .c) 4) to-most-counters in
+      let (some-ok, most-ok) = both (leb 1 (o .n)) (leb (o .n) 8) to-most in
+      record {
+        lengths-agree = l;
+        in-limits = k;
+        most = leb-true _ _ most-ok;
+        counters = leb-true _ _ counters-ok;
+        file-long = eqb-true _ _ file-ok;
+        records-long = eqb-true _ _ records-ok;
+        new-long = eqb-true _ _ new-ok;
+        list-long = eqb-true _ _ list-ok;
+        entry-fits = entry-ok;
+      }
+
+  -- Where nothing is refused unread, they agree.
   pub unread-none : unread o (lengthsOf list file lent) .number ≡ 0 → Card o list file lent
   unread-none = go (lengths o (lengthsOf list file lent)) refl (limits o (length (lent .journal) / 29)) refl
     where
       go : (a : Bool) → lengths o (lengthsOf list file lent) ≡ a → (b : Bool) → limits o (length (lent .journal) / 29) ≡ b
           → (pick {A = Refusal} a (pick b (refusal 0 0) (refusal 11 0)) (refusal 1 0)) .number ≡ 0 → Card o list file lent
-      go true l true k h =
-          let (list-ok, file-ok, records-ok, new-ok) = of-seven (eqb (length list) 29) (eqb (length file) (29 * o .n)) (eqb (length (lent .special)) 29) (eqb (length (lent .journal) % 29) 0) (eqb (length (lent .records)) (29 * o .s)) (eqb (length (lent .new)) 29) (eqb (length (lent .codes)) 32) l in
-          let (high, within, entry-ok) = of-ten (leb 1 (o .n)) (leb (o .n) 8) (leb (o .c) 4) (leb (o .c) (o .n)) (leb (o .s) 4) (leb (length (lent .journal) / 29) 15) (leb (o .day) 16383) (leb (o .minute) 1439) (leb (o .hours) 255) (entryFits o) k in
-          record {
-            lengths-agree = l;
-            in-limits = k;
-            most = leb-true _ _ high;
-            counters = leb-true _ _ within;
-            file-long = eqb-true _ _ file-ok;
-            records-long = eqb-true _ _ records-ok;
-            new-long = eqb-true _ _ new-ok;
-            list-long = eqb-true _ _ list-ok;
-            entry-fits = entry-ok;
-          }
+      go true l true k h = agreed l k
       go true l false k h = absurd (omega arith)
       go false l b k h = absurd (omega arith)
 

@@ -1,7 +1,7 @@
 -- What loading promises: the pointer is the one that the rule names, 9 exactly where it names none, nothing else on the card
 -- changes, and no entry leaves the list that was not erasable.
 use Prim.Native.Nat.{ℕ, _+_, _-_, _*_, _/_, _≤_, _<_}
-use mathlib.Core.Bool.{Bool, true, false, not, _&&_, _||_, true≢false}
+use mathlib.Core.Bool.{Bool, true, false, not, _||_, true≢false}
 use mathlib.Core.List.{List, [], _∷_, _++_, map, List·Memᴰ, List·Memᴰ·head, List·Memᴰ·tail, map-append, Memᴰ·append-left, append-assoc}
 use mathlib.Core.Path.{_≡_, refl, sym, ap, _∙_}
 use mathlib.Core.Logic.{⊎-elim}
@@ -11,6 +11,7 @@ use lib.ListN.{length, take, drop, length-append, length-drop, take-append-drop}
 use lib.Seq.{length-take-le, take-at, drop-at, drop-append-le, take-append-le, drop-append-add, drop-drop}
 use borrow.Author.Tests.{eq-eqb, ne-eqb, eqb-true, eqb-false, ltb-true, ltb-false, leb-true, not-true}
 use Rattle.rows.specs.Row.{pick, among}
+use Rattle.rows.proofs.Margins.{both}
 use Rattle.rows.proofs.Refusing.{Refusing}
 use Rattle.records.specs.Answer.{Written, refusal, accepted}
 use Rattle.records.specs.Order.{Attempt, got, stopped, next, needs, recordFrom}
@@ -174,18 +175,13 @@ read-found : {o : Order} {list file : List ℕ} {lent : Lent} (a : AllRead o lis
 unfolding finding placing
 read-found a = rw (a .card .lengths-agree, a .card .in-limits, a .reads, a .events, a .contract)
 
-of-five : (a b c d e : Bool) → (a && b && c && d && e) ≡ true → (a ≡ true) × (b ≡ true) × (c ≡ true) × (d ≡ true) × (e ≡ true)
-of-five true true true true true all = (refl, refl, refl, refl, refl)
-of-five true true true true false all = absurd (true≢false (sym all))
-of-five true true true false e all = absurd (true≢false (sym all))
-of-five true true false d e all = absurd (true≢false (sym all))
-of-five true false c d e all = absurd (true≢false (sym all))
-of-five false b c d e all = absurd (true≢false (sym all))
-
 -- The new entry is one that a list may count.
 new-good : (o : Order) (p : ℕ) → entryFits o ≡ true → p ≤ 8 → Good (newEntry o p)
 new-good o p fits few =
-    let (key, kind, priority, defined, network) = of-five (leb (o .key) 15) (leb (o .kind) 255) (leb (o .priority) 15) (not (eqb (o .priority) 13)) (networkFits o) fits in
+    let (to-defined, network) = both _ _ fits in
+    let (to-priority, defined) = both _ _ to-defined in
+    let (to-kind, priority) = both _ _ to-priority in
+    let (key, kind) = both _ _ to-kind in
     made-good (o .«has_network») (o .network) (o .key) (o .kind) (o .priority) p network (leb-true _ _ key) (leb-true _ _ kind) (leb-true _ _ priority) (eqb-false _ _ (not-true _ defined)) few
 
 -- The list afterwards is written, or it does not fit.

@@ -70,7 +70,8 @@ each P a b c d p q r s z (suc (suc zero)) = r
 each P a b c d p q r s z (suc (suc (suc zero))) = s
 each P a b c d p q r s z (suc (suc (suc (suc i)))) = z
 
-both : (x y : Bool) → (x && y) ≡ true → (x ≡ true) × (y ≡ true)
+-- What two tests together tell of each.
+pub both : (x y : Bool) → (x && y) ≡ true → (x ≡ true) × (y ≡ true)
 both true y e = (refl, e)
 both false y e = absurd (true≢false (sym e))
 

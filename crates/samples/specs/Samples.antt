@@ -45,19 +45,19 @@ entry key kind priority pointer =
 abbrev eventBytes : ℕ → ℕ → ℕ → List ℕ
 eventBytes date minute bitmap = cut 8 8 29 (bitsOf 14 date ++ (bitsOf 11 minute ++ bitsOf 28 bitmap))
 
--- An event that names pointer 1, element [25], without a code.
-abbrev codeless : ℕ → ℕ → Event
-codeless date minute = eventOf (date ∷ minute ∷ 2 ^ 25 ∷ (replicate 25 0 ++ (1 ∷ []))) []
+-- An event that names pointer 1, element [25], by its bitmap and its code, element [2].
+abbrev naming : ℕ → ℕ → ℕ → ℕ → Event
+naming bitmap code date minute = eventOf (date ∷ minute ∷ bitmap ∷ 0 ∷ 0 ∷ code ∷ (replicate 22 0 ++ (1 ∷ []))) []
 
--- And one with a code, element [2].
 abbrev coded : ℕ → ℕ → ℕ → Event
-coded code date minute =
-    eventOf (date ∷ minute ∷ (2 ^ 25 + 2 ^ 2) ∷ 0 ∷ 0 ∷ code ∷ (replicate 22 0 ++ (1 ∷ []))) []
+coded code date minute = naming (2 ^ 25 + 2 ^ 2) code date minute
 
--- The same event's record.
-abbrev codedBytes : ℕ → ℕ → ℕ → List ℕ
-codedBytes code date minute =
-    cut 8 8 29 (bitsOf 14 date ++ (bitsOf 11 minute ++ (bitsOf 28 (2 ^ 25 + 2 ^ 2) ++ (bitsOf 8 code ++ bitsOf 5 1))))
+abbrev codeless : ℕ → ℕ → Event
+codeless date minute = naming (2 ^ 25) 0 date minute
+
+-- The record of an event.
+abbrev recordOf : Event → List ℕ
+recordOf e = eventWritten (replicate 29 0) e .bytes
 
 -- The 32 bytes in which just one code is marked; all; all but one.
 abbrev marking : ℕ → List ℕ
@@ -216,10 +216,10 @@ samples =
     -- The demand behind it: an inspector's event names a used-up carnet, on a card of one contract, and the counter loads over it;
     -- where it is a journey's, 9.
     ∷ loads (order 1 0 0 false) (0x1C085E1 and 51 zeros) (replicate 29 255)
-    (lent (codedBytes 20 100 60) (markingOthers 20))
+    (lent (recordOf (coded 20 100 60)) (markingOthers 20))
     (loaded (refusal 0 0) 1 (0x1C084C1 and 51 zeros) (replicate 29 0))
     ∷ loads (order 1 0 0 false) (0x1C085E1 and 51 zeros) (replicate 29 255)
-    (lent (codedBytes 20 100 60) (marking 20))
+    (lent (recordOf (coded 20 100 60)) (marking 20))
     (loaded (refusal 9 0) 0 (0x1C085E1 and 51 zeros) (replicate 29 255))
     -- Slip: treating "oldest" as the lowest pointer: with pointers listed 1 2 7 3 5 6 8 4 and 5 to 8 erasable, the plain one to
     -- take is 7.
