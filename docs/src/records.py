@@ -22,7 +22,7 @@ LIST, CONTRACT_42, CONTRACT_50 = READ_BY_BOTH = range(3)
 NAMES = ("list", "42h", "50h", "special list", "Event", "Environment", "Holder")
 KEEP_A_MARGIN = (1, 2, 4, 5, 6)  # the kinds whose values keep what stands after the last field
 REWRITE = 7                      # a reader's number and 7: read, then written again
-SELECT, LOAD = 14, 15
+SELECT, LOAD, LOAD_AND_SELECT = 14, 15, 16
 TYPE = {CONTRACT_42: 0x42, CONTRACT_50: 0x50}
 RECORD_BITS = 232
 MARKED = bytes.fromhex("55" * 32)     # event codes that block: the odd ones
@@ -59,6 +59,7 @@ def others():
         units = [bytes([kind]) + one_after(random, kind) for _ in range(FEW)]
         yield f"{NAMES[kind]}, margin, read", units
         yield f"{NAMES[kind]}, margin, read and written", rewritten(units)
+    yield "load and select, journal 3", [bytes([LOAD_AND_SELECT]) + load_unit(random, 3)[1:] for _ in range(FEW)]
 
 
 def rewritten(units):

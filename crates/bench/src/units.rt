@@ -41,7 +41,8 @@ pub fn answer(unit: &[u8]) -> u64
     other_answer(what, lent)
 }
 
-// Of the other operations the refusal and one number are enough: what they answer lies in memory.
+// Of the other operations the refusal and one number are enough: what they answer lies in memory. Selection and loading are called
+// from two places each, so that the compiler inlines neither and the stack of each can be told.
 fn other_answer(what: u8, lent: &[u8]) -> u64 {
     match what {
         3 => special_read(lent),
@@ -57,6 +58,7 @@ fn other_answer(what: u8, lent: &[u8]) -> u64 {
         13 => holder_again(lent),
         14 => select(lent),
         15 => load(lent),
+        16 => load_and_select(lent),
         _ => 0,
     }
 }
@@ -183,6 +185,30 @@ fn load(lent: &[u8]) -> u64 {
         order,
     );
     digest::of(loaded.refusal, loaded.pointer)
+}
+
+// The same, and then selection on the card that loading leaves, for the operator whose number is the new contract's key.
+fn load_and_select(lent: &[u8]) -> u64 {
+    if lent.len() < 476 {
+        return 0;
+    }
+    let mut list = [0u8; 29];
+    let mut file = [0u8; 232];
+    copy(&lent[0..29], &mut list);
+    copy(&lent[29..261], &mut file);
+    let order = order(&lent[435..444]);
+    loading::load(
+        &mut list,
+        &mut file,
+        &lent[261..290],
+        &lent[476..],
+        &lent[290..406],
+        &lent[406..435],
+        &lent[444..476],
+        order,
+    );
+    let chosen = selection::select(&list, &file, N, order.day, order.key);
+    digest::of(chosen.refusal, chosen.pointer)
 }
 
 fn order(words: &[u8]) -> Order

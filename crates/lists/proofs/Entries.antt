@@ -6,9 +6,9 @@ use mathlib.Core.Path.{_≡_, refl, sym, ap, _∙_}
 use native.Mathlib.Omega.{arith}
 use native.Mathlib.Numerals.{add-one}
 use lib.Dec.{eqb, ltb}
-use lib.ListN.{length, getD, set, take, drop, drop-of-length-le, length-append, length-take, List·getD-append, List·getD-eq-default}
-use lib.Seq.{drop-cons, getD-append-seam, take-suc, getD-take}
-use borrow.Author.Tests.{ne-eqb, lt-ltb, ltb-true, ltb-false}
+use lib.ListN.{length, getD, set, take, drop, drop-of-length-le, length-append, length-take, length-set, List·getD-append, List·getD-eq-default}
+use lib.Seq.{drop-cons, getD-append-seam, take-suc, take-suc-set, take-all, getD-take, drop-set-lt, length-take-le}
+use borrow.Author.Tests.{eq-eqb, ne-eqb, lt-ltb, ltb-true, ltb-false}
 use Rattle.rows.specs.Row.{pick}
 use Rattle.records.specs.Answer.{named}
 use Rattle.lists.specs.List.{entryOf}
@@ -63,6 +63,12 @@ module _ (l : ContractList) (position code : ℕ) where
       same-count _ (rw up at (recoded-set (position - 1) code (l .entries) d (omega arith)))
 
 module _ {A : Type 0} (d : A) where
+  -- What stands at a place of a list by name.
+  pub named-get : (i n k : ℕ) (l : List A) → k < n → getD (named d i n l) k d ≡ getD l (i + k) d
+  named-get i zero k l h = absurd (omega arith)
+  named-get i (suc n) zero l h = let same : i ≡ i + 0 = omega arith in ap (λ (j : ℕ). getD l j d) same
+  named-get i (suc n) (suc k) l h = let same : suc i + k ≡ i + suc k = omega arith in named-get (suc i) n k l (omega arith) ∙ ap (λ (j : ℕ). getD l j d) same
+
   -- Past the end of a list, one element more changes nothing.
   named-past : (i n : ℕ) (l : List A) (a : A) → length l < i → named d i n l ≡ named d i n (l ++ (a ∷ []))
   named-past i zero l a h = refl
@@ -136,30 +142,93 @@ length-without pointer (e ∷ es) = go (eqb (e .pointer) pointer) (length-withou
 pub length-counted : (l : ContractList) → length (l .entries) ≡ 8 → length (counted l) ≡ min (l .count) 8
 length-counted l eight = rw (length-take, eight)
 
--- One counted entry more is left out or kept.
-pub without-next : (l left : ContractList) (pointer i : ℕ) (d : Entry) → length (l .entries) ≡ 8 → i < length (counted l)
-    → left ≡ listing (without pointer (take i (counted l)))
-    → pick (eqb (getD (l .entries) i d .pointer) pointer) left (appended (getD (l .entries) i d) left)
-    ≡ listing (without pointer (take (i + 1) (counted l)))
-without-next l left pointer i d eight more so-far =
-    let up : i + 1 ≡ suc i = add-one i in
-    let own : getD (counted l) i d ≡ e = getD-take (l .count) (l .entries) i d inside in
-    let rest : without pointer (take (i + 1) (counted l)) ≡ kept ++ without pointer (e ∷ []) =
-    rw (up, take-suc (counted l) i d more, own) (without-append pointer (take i (counted l)) (e ∷ [])) in
-    rw so-far (go (eqb (e .pointer) pointer)) ∙ ap listing (sym rest)
-  where
-    e : Entry
-    e = getD (l .entries) i d
+-- The entries of a list, of whose first `i` counted ones those that are not of a pointer have moved down, `left` of them, while
+-- those from `i` on are as they were.
+pub record Thinning (pointer : ℕ) (l : ContractList) (es : List Entry) (left i : ℕ) : Type 0 where
+  pub long : length (l .entries) ≡ 8
+  pub eight : length es ≡ 8
+  pub upto : left ≤ i
+  pub front : take left es ≡ without pointer (take i (counted l))
+  pub back : drop i es ≡ drop i (l .entries)
 
-    inside : i < l .count
-    inside = omega (arith, length-counted l eight, more)
+-- Before the first.
+pub thinning-start : (pointer : ℕ) (l : ContractList) → length (l .entries) ≡ 8 → Thinning pointer l (l .entries) 0 0
+thinning-start pointer l long = record { long = long; eight = long; upto = omega arith; front = refl; back = refl }
 
-    kept : List Entry
-    kept = without pointer (take i (counted l))
+module _ {pointer : ℕ} {l : ContractList} {es : List Entry} {left i : ℕ} (sofar : Thinning pointer l es left i) where
+  module _ (d : Entry) (more : i < length (counted l)) where
+    inside : i < 8
+    inside = omega (arith, length-counted l (sofar .long), more)
 
-    few : length kept < 8
-    few = omega (arith, length-without pointer (take i (counted l)), length-take i (counted l), length-counted l eight, more)
+    -- The next entry is the one that the list has there, and so are those behind it.
+    rest-same : getD es i d ∷ drop (suc i) es ≡ getD (l .entries) i d ∷ drop (suc i) (l .entries)
+    rest-same =
+        sym (drop-cons es i d (rw (sofar .eight) inside)) ∙ sofar .back ∙ drop-cons (l .entries) i d (rw (sofar .long) inside)
 
-    go : (t : Bool) → pick t (listing kept) (appended e (listing kept)) ≡ listing (kept ++ pick t [] (e ∷ []))
-    go true = rw append-nil
-    go false = appended-listing e kept few
+    behind : drop (suc i) es ≡ drop (suc i) (l .entries)
+    behind = cc rest-same
+
+    -- What is left once it is passed.
+    next : without pointer (take (suc i) (counted l)) ≡ without pointer (take i (counted l)) ++ without pointer (getD es i d ∷ [])
+    next =
+        let counts : i < l .count = omega (arith, length-counted l (sofar .long), more) in
+        let here : getD (counted l) i d ≡ getD es i d = cc (getD-take (l .count) (l .entries) i d counts, rest-same) in
+        rw (take-suc (counted l) i d more, here) (without-append pointer (take i (counted l)) (getD es i d ∷ []))
+
+    -- It is left out,
+    pub thinning-out : getD es i d .pointer ≡ pointer → Thinning pointer l es left (i + 1)
+    thinning-out same =
+        rw add-one (record {
+          long = sofar .long;
+          eight = sofar .eight;
+          upto = omega arith;
+          front = sofar .front ∙ sym (rw (eq-eqb _ _ same, append-nil) at next);
+          back = behind;
+        })
+
+    -- or kept.
+    pub thinning-kept : (getD es i d .pointer ≡ pointer → ⊥) → Thinning pointer l (set es left (getD es i d)) (left + 1) (i + 1)
+    thinning-kept other =
+        rw (add-one left, add-one i) (record {
+          long = sofar .long;
+          eight = rw length-set (sofar .eight);
+          upto = omega arith;
+          front = take-suc-set es left _ (omega (arith, inside)) ∙ rw (sofar .front) (sym (rw (ne-eqb _ _ other) at next));
+          back = drop-set-lt (suc i) es left _ (omega arith) ∙ behind;
+        })
+
+  -- After the last, those that are not of the pointer stand in front.
+  pub thinning-all : length (counted l) ≤ i → take left es ≡ without pointer (counted l)
+  thinning-all all = sofar .front ∙ ap (without pointer) (take-all i (counted l) all)
+
+-- A list that counts some entries, and whose places below `k` hold these and then zeros.
+pub record Clearing (kept : List Entry) (l : ContractList) (k : ℕ) : Type 0 where
+  pub counts : l .count ≡ length kept
+  pub eight : length (l .entries) ≡ 8
+  pub past : length kept ≤ k
+  pub front : take k (l .entries) ≡ take k (listing kept .entries)
+
+-- At first it holds just these.
+pub clearing-start : (l : ContractList) → length (l .entries) ≡ 8 → l .count ≤ 8 → Clearing (counted l) l (l .count)
+clearing-start l eight few =
+    let sized : length (counted l) ≡ l .count = length-take-le (l .count) (l .entries) (rw eight few) in
+    record { counts = sym sized; eight = eight; past = omega arith; front = rw sized at (sym (counted-listing (counted l) (omega arith))) }
+
+module _ {kept : List Entry} {l : ContractList} {k : ℕ} (sofar : Clearing kept l k) where
+  -- A zero entry more.
+  pub clearing-more : k < 8 → Clearing kept (record { count = l .count; entries = set (l .entries) k (entryOf [] 0) }) (k + 1)
+  clearing-more more =
+      let zeros : getD (listing kept .entries) k (entryOf [] 0) ≡ entryOf [] 0 =
+      named-get _ 0 8 k kept more ∙ List·getD-eq-default kept _ (omega (arith, sofar .past)) in
+      rw add-one (record {
+        counts = sofar .counts;
+        eight = rw length-set (sofar .eight);
+        past = omega arith;
+        front = take-suc-set (l .entries) k _ (omega arith) ∙ rw (sofar .front) (sym (rw zeros at (take-suc (listing kept .entries) k (entryOf [] 0) more)));
+      })
+
+  -- At the end it is the list of these entries.
+  pub clearing-all : 8 ≤ k → l ≡ listing kept
+  clearing-all all =
+      let cleared : l .entries ≡ listing kept .entries = sym (take-all k (l .entries) (omega arith)) ∙ sofar .front ∙ take-all k (listing kept .entries) all in
+      ap (λ (n : ℕ). record { count = n; entries = l .entries }) (sofar .counts) ∙ ap (λ (es : List Entry). record { count = length kept; entries = es }) cleared

@@ -20,11 +20,11 @@ use Rattle.records.proofs.Inverse.{from-all}
 use Rattle.lists.specs.List.{entryOf, entryAt, numbersOf, gotList, listFault, listRead, listWritten}
 use Rattle.lists.specs.Listing.{column, obeying, writeList}
 use Rattle.lists.specs.Rules.{faultAfter}
-use Rattle.records.specs.Answer.{refusal, refusalAt, named, written}
+use Rattle.records.specs.Answer.{refusal, refusalAt, written}
 use Rattle.lists.specs.Entries.{counted, listing, without, entriesFields, listFields, listBits, overfull}
 use Rattle.lists.specs.declared.list.Entry.{Entry}
 use Rattle.lists.specs.declared.list.ContractList.{ContractList}
-use Rattle.lists.proofs.Entries.{length-counted, counted-listing}
+use Rattle.lists.proofs.Entries.{named-get, length-counted, counted-listing}
 use Rattle.lists.proofs.Recoding.{slots-list}
 use Rattle.lists.proofs.Judging.{take-map}
 use Rattle.lists.proofs.Kept.{Full, Apart, full-at, fault-none, list-was-read, list-kept}
@@ -87,11 +87,6 @@ sound-good count k e h s full =
 
 none-sound : (count k : ℕ) → count ≤ k → EntrySound count k (entryOf [] 0)
 none-sound count k h = record { bitmap = rw (le-ltb k count h); network = refl; tariff = refl; rule = refl; pointer = refl }
-
-named-get : {A : Type 0} (d : A) (i n k : ℕ) (l : List A) → k < n → getD (named d i n l) k d ≡ getD l (i + k) d
-named-get d i zero k l h = absurd (omega arith)
-named-get d i (suc n) zero l h = let same : i ≡ i + 0 = omega arith in ap (λ (j : ℕ). getD l j d) same
-named-get d i (suc n) (suc k) l h = let same : suc i + k ≡ i + suc k = omega arith in named-get d (suc i) n k l (omega arith) ∙ ap (λ (j : ℕ). getD l j d) same
 
 abbrev pub AllGood : List Entry → Type 0
 AllGood [] = Unit {0}

@@ -2,9 +2,7 @@
 ghost use mathlib.Core.Path.{_≡_};
 ghost use mathlib.Core.List.{[], _∷_};
 ghost use Prim.Native.Nat.{_+_, _*_, _≤_};
-ghost use lib.Dec.{eqb};
 ghost use lib.ListN.{length};
-ghost use Rattle.rows.specs.Row.{pick};
 ghost use Rattle.rows.specs.inner.Step.{Ready, Drafted};
 ghost use Rattle.rows.specs.inner.Line.{start, Puts};
 ghost use Rattle.rows.specs.table.BestContracts.{entry, contractList};
@@ -159,18 +157,27 @@ impl ContractList {
         self
     }
 
-    // The list without any entry of a pointer.
-    pub fn without(self, pointer: u32) -> ContractList
+    // The list without any entry of a pointer: the later entries move down, and zeros follow.
+    pub fn without(mut self, pointer: u32) -> ContractList
         ensures { λ r. ⌜ r ≡ listing (without pointer (counted self)) ⌝ }
     {
-        let mut left = ContractList::NONE;
         let n = self.len();
+        let mut left = 0;
         let mut i = 0;
         while i < n {
-            left = left.with_other(pointer, self.entries[i]);
+            let entry = self.entries[i];
+            if entry.pointer != pointer {
+                self.entries[left] = entry;
+                left += 1;
+            }
             i += 1;
         }
-        left
+        self.count = left as u32;
+        while left < 8 {
+            self.entries[left] = Entry::NONE;
+            left += 1;
+        }
+        self
     }
 
     // The number of counted entries.
@@ -181,16 +188,6 @@ impl ContractList {
             return self.count as usize;
         }
         8
-    }
-
-    // The list with an entry more, unless it is one of a pointer.
-    fn with_other(self, pointer: u32, entry: Entry) -> ContractList
-        ensures { λ r. ⌜ r ≡ pick (eqb (entry .pointer) pointer) self (appended entry self) ⌝ }
-    {
-        if entry.pointer == pointer {
-            return self;
-        }
-        self.with(entry)
     }
 }
 

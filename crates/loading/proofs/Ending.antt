@@ -1,18 +1,17 @@
 -- From each way out of loading's code to what loading means.
-use Prim.Native.Nat.{ℕ, suc, _-_, _*_, _/_, _^_, _≤_, _<_}
+use Prim.Native.Nat.{ℕ, suc, _*_, _/_, _≤_, _<_}
 use mathlib.Core.Bool.{Bool, true, false, not, _||_}
 use mathlib.Core.List.{List, [], _∷_, map, List·Memᴰ, List·Memᴰ·head, List·Memᴰ·tail}
 use mathlib.Core.Path.{_≡_, refl, sym, ap, _∙_}
 use mathlib.Core.Logic.{⊎-elim}
 use native.Mathlib.Omega.{arith}
 use lib.Dec.{eqb, leb}
-use lib.ListN.{length, getD, drop, length-map, length-drop, replicate}
-use lib.Seq.{length-take-le}
+use lib.ListN.{length, length-map, replicate}
 use borrow.Author.Tests.{eq-eqb, ne-eqb, eqb-true, eqb-false, leb-true, not-true}
 use Rattle.rows.specs.Row.{pick, among}
 use Rattle.rows.proofs.Margins.{both}
-use Rattle.records.specs.Answer.{refusal, accepted}
-use Rattle.records.specs.Order.{Attempt, got, stopped, needs, recordFrom}
+use Rattle.records.specs.Answer.{refusal}
+use Rattle.records.specs.Order.{Attempt, got, stopped, next, needs}
 use Rattle.records.specs.declared.Refusal.{Refusal}
 use Rattle.lists.specs.List.{gotList, listRead}
 use Rattle.lists.specs.Entries.{counted, listing, without}
@@ -21,19 +20,17 @@ use Rattle.lists.specs.declared.list.ContractList.{ContractList}
 use Rattle.lists.specs.declared.list.ListRead.{ListRead}
 use Rattle.lists.proofs.Entries.{appended-listing, length-without}
 use Rattle.lists.proofs.Kept.{Kept, list-kept, list-got, room-left, room-all}
-use Rattle.contract.specs.Contract.{contractRead, contractWritten}
+use Rattle.contract.specs.Contract.{contractRead}
 use Rattle.contract.specs.declared.Contract.{Contract}
-use Rattle.contract.specs.declared.ContractRead.the-variants.{Read, Refused}
-use Rattle.contract.proofs.Laws.{contract-read-write}
 use Rattle.loading.specs.Blocking.{some}
 use Rattle.loading.specs.Place.{free, place, afterwards}
-use Rattle.loading.specs.Loading.{Lent, lengths, lengthsOf, entryFits, limits, loaded, newEntry, placed, blocking, placing, finding, settled, loading}
+use Rattle.loading.specs.Loading.{Lent, Found, found, lengths, lengthsOf, entryFits, limits, contractGot, loaded, newEntry, blocking, placing, finding, settled, loading}
 use Rattle.loading.specs.inner.Unread.{unread}
 use Rattle.loading.specs.inner.Marks.{marked, refusalOf, Marking}
-use Rattle.loading.specs.inner.Store.{renewed, stored}
+use Rattle.loading.specs.inner.Store.{renewed, stored, restRead, ended}
 use Rattle.loading.specs.declared.Order.{Order}
 use Rattle.loading.proofs.Placing.{Named, placed-free-or-erasable, place-marked}
-use Rattle.loading.proofs.Told.{blocking-stops}
+use Rattle.loading.proofs.Told.{rest-stops}
 
 -- An entry that has the pointer leaves.
 leaves : (e : Entry) (es : List Entry) (p : ℕ) → List·Memᴰ e es → e .pointer ≡ p → length (without p es) < length es
@@ -70,6 +67,13 @@ room-for n l blocked p kept named other =
   where
     pointers : List ℕ
     pointers = map (λ (e : Entry). e .pointer) (counted l)
+
+-- The pointer's place is in the contract file.
+pub place-inside : (o : Order) (file : List ℕ) (blocked : ℕ → Bool) (es : List Entry) (p : ℕ) → o .c ≤ o .n → length file ≡ 29 * o .n
+    → p ≡ place blocked (o .n) (o .c) (o .counter) es → 29 * p ≤ length file
+place-inside o file blocked es p counters long named =
+    let most : p ≤ o .n = rw (← named) at (placed-free-or-erasable blocked (o .n) (o .c) (o .counter) es counters .most) in
+    rw long (omega arith)
 
 -- The limits that concern the card.
 pub record Card (o : Order) (list file : List ℕ) (lent : Lent) : Type 0 where
@@ -135,70 +139,75 @@ module _ (o : Order) (list file : List ℕ) (lent : Lent) where
       go false b e = rw e
 
   module _ (card : Card o list file lent) where
-    -- The pointer's place is in the contract file.
-    pub place-inside : (blocked : ℕ → Bool) (es : List Entry) (p : ℕ) → p ≡ place blocked (o .n) (o .c) (o .counter) es → 29 * p ≤ length file
-    place-inside blocked es p named =
-        let most : p ≤ o .n = rw (← named) at (placed-free-or-erasable blocked (o .n) (o .c) (o .counter) es (card .counters) .most) in
-        rw (card .file-long) (omega arith)
-
     -- Then all is read.
     read-all : loading o list file lent ≡ settled o list file (lent .new) (placing o list lent)
     unfolding loading finding
     read-all = rw (card .lengths-agree, card .in-limits)
 
     module _ (r : ListRead) (same : r ≡ listRead (o .n) list) where
-      pub refused-list : (r .refusal .number ≡ 0 → ⊥) → loaded (r .refusal) 0 list file ≡ loading o list file lent
+      refused-list : (r .refusal .number ≡ 0 → ⊥) → loaded (r .refusal) 0 list file ≡ loading o list file lent
       unfolding placing
       refused-list other = rw (read-all, ← same, ne-eqb _ _ other)
 
       module _ (reads : r .refusal .number ≡ 0) where
-        refused-attempt : (x : Refusal) → blocking o (lent .special) (lent .journal) (lent .records) (lent .codes) ≡ stopped x → loaded x 0 list file ≡ loading o list file lent
-        unfolding placing
-        refused-attempt x e = rw (read-all, ← same, eq-eqb _ _ reads, e)
+        -- The list read, the rest decides, and then the place.
+        read-list : loading o list file lent
+            ≡ settled o list file (lent .new) (next (restRead o lent) (λ is-blocked. found (counted (r .list)) (place is-blocked (o .n) (o .c) (o .counter) (counted (r .list)))))
+        unfolding placing restRead
+        read-list =
+            rw (read-all, ← same, eq-eqb _ _ reads)
+            (ap (settled o list file (lent .new)) (go (blocking o (lent .special) (lent .journal) (lent .records) (lent .codes)) (contractGot (contractRead (o .kind) (lent .new)))))
+          where
+            more : (ℕ → Bool) → Attempt Found
+            more is-blocked = found (counted (r .list)) (place is-blocked (o .n) (o .c) (o .counter) (counted (r .list)))
 
-        module _ {marks : List Bool} {x : Refusal} (m : Marking (blocking o (lent .special) (lent .journal) (lent .records) (lent .codes)) (λ b. b) (replicate 9 false) marks x) where
-          pub refused-events : (x .number ≡ 0 → ⊥) → loaded x 0 list file ≡ loading o list file lent
-          refused-events other = go (blocking o (lent .special) (lent .journal) (lent .records) (lent .codes)) refl (m .answer)
+            go : (t : Attempt (ℕ → Bool)) (u : Attempt Contract)
+                → next t (λ is-blocked. next u (λ new. more is-blocked)) ≡ next (next t (λ is-blocked. next u (λ new. got is-blocked))) more
+            go (got is-blocked) (got new) = refl
+            go (got is-blocked) (stopped y) = refl
+            go (stopped y) u = refl
+
+        module _ {marks : List Bool} {x : Refusal} (m : Marking (restRead o lent) (λ b. b) (replicate 9 false) marks x) where
+          refused-rest : (x .number ≡ 0 → ⊥) → loaded x 0 list file ≡ loading o list file lent
+          refused-rest other = go (restRead o lent) refl (m .answer)
             where
-              go : (t : Attempt (ℕ → Bool)) → blocking o (lent .special) (lent .journal) (lent .records) (lent .codes) ≡ t → x ≡ refusalOf t → loaded x 0 list file ≡ loading o list file lent
+              go : (t : Attempt (ℕ → Bool)) → restRead o lent ≡ t → x ≡ refusalOf t → loaded x 0 list file ≡ loading o list file lent
               go (got b) e h = absurd (other (ap (λ (r : Refusal). r .number) h))
-              go (stopped y) e h = refused-attempt x (e ∙ ap stopped (sym h))
+              go (stopped y) e h = rw (read-list, e, h)
 
-          module _ (quiet : x .number ≡ 0) where
-            pub refused-contract : (y : Refusal) → contractRead (o .kind) (lent .new) ≡ Refused y → loaded y 0 list file ≡ loading o list file lent
-            unfolding placing
-            refused-contract y e =
-                let (blocked, events, placed) = place-marked (blocking-stops o (lent .special) (lent .journal) (lent .records) (lent .codes)) m quiet in
-                rw (read-all, ← same, eq-eqb _ _ reads, events, e)
+          named-place : (blocked : ℕ → Bool) (p : ℕ) → restRead o lent ≡ got blocked
+              → p ≡ place blocked (o .n) (o .c) (o .counter) (counted (r .list))
+              → stored o list file (r .list) (lent .new) p ≡ loading o list file lent
+          unfolding stored
+          named-place blocked p all named = rw (read-list, all, ← named) (go (eqb p 0) refl)
+            where
+              go : (t : Bool) → eqb p 0 ≡ t
+                  → stored o list file (r .list) (lent .new) p
+                  ≡ settled o list file (lent .new) (pick (not t) (got (record { entries = counted (r .list); pointer = p })) (stopped (refusal 9 0)))
+              go true z = rw z
+              go false z =
+                  let other : p ≡ 0 → ⊥ = eqb-false _ _ z in
+                  let read : listRead (o .n) list ≡ gotList (r .list) = sym same ∙ rw (← same) at (list-got (o .n) list (ap (λ (x : ListRead). x .refusal .number) (sym same) ∙ reads)) in
+                  let kept = list-kept (o .n) list (r .list) read in
+                  let names = placed-free-or-erasable blocked (o .n) (o .c) (o .counter) (counted (r .list)) (card .counters) in
+                  let room : length (without p (counted (r .list))) < o .n = room-for (o .n) (r .list) blocked p kept (rw (← named) at names) other in
+                  let lists : renewed o (r .list) p ≡ listing (afterwards (newEntry o p) (counted (r .list))) = appended-listing (newEntry o p) (without p (counted (r .list))) (omega (arith, room, card .most)) in
+                  rw (z, lists)
 
-            named-place : (c : Contract) (blocked : ℕ → Bool) (p : ℕ) → blocking o (lent .special) (lent .journal) (lent .records) (lent .codes) ≡ got blocked
-                → contractRead (o .kind) (lent .new) ≡ Read c → ((i : ℕ) → getD (lent .new) i 0 < 2 ^ 8)
-                → p ≡ place blocked (o .n) (o .c) (o .counter) (counted (r .list))
-                → stored o list file (r .list) c p ≡ loading o list file lent
-            unfolding placing stored
-            named-place c blocked p events e small named = rw (read-all, ← same, eq-eqb _ _ reads, events, e, ← named) (go (eqb p 0) refl)
-              where
-                go : (t : Bool) → eqb p 0 ≡ t
-                    → stored o list file (r .list) c p
-                    ≡ settled o list file (lent .new) (pick (not t) (got (record { entries = counted (r .list); pointer = p })) (stopped (refusal 9 0)))
-                go true z = rw z
-                go false z =
-                    let other : p ≡ 0 → ⊥ = eqb-false _ _ z in
-                    let read : listRead (o .n) list ≡ gotList (r .list) = sym same ∙ rw (← same) at (list-got (o .n) list (ap (λ (x : ListRead). x .refusal .number) (sym same) ∙ reads)) in
-                    let kept = list-kept (o .n) list (r .list) read in
-                    let names = placed-free-or-erasable blocked (o .n) (o .c) (o .counter) (counted (r .list)) (card .counters) in
-                    let room : length (without p (counted (r .list))) < o .n = room-for (o .n) (r .list) blocked p kept (rw (← named) at names) other in
-                    let lists : renewed o (r .list) p ≡ listing (afterwards (newEntry o p) (counted (r .list))) = appended-listing (newEntry o p) (without p (counted (r .list))) (omega (arith, room, card .most)) in
-                    let most : p ≤ o .n = rw (← named) at (names .most) in
-                    let files-long : length file ≡ 29 * o .n = card .file-long in
-                    let inside : 29 ≤ length (drop (29 * (p - 1)) file) = simp length-drop (omega arith) in
-                    let files : contractWritten (o .kind) c (recordFrom file (p - 1)) ≡ accepted (lent .new) =
-                    contract-read-write (o .kind) (lent .new) (recordFrom file (p - 1)) c small (length-take-le 29 (drop (29 * (p - 1)) file) inside) e in
-                    rw (z, lists, files)
+          loads : x .number ≡ 0 → stored o list file (r .list) (lent .new) (place (marked marks) (o .n) (o .c) (o .counter) (counted (r .list))) ≡ loading o list file lent
+          loads quiet =
+              let (blocked, all, same-place) = place-marked (rest-stops o lent) m quiet in
+              named-place blocked _ all (same-place (o .n) (o .c) (o .counter) (counted (r .list)) (card .most) (card .counters))
 
-            pub loads : (c : Contract) (p : ℕ) → contractRead (o .kind) (lent .new) ≡ Read c → ((i : ℕ) → getD (lent .new) i 0 < 2 ^ 8)
-                → p ≡ place (marked marks) (o .n) (o .c) (o .counter) (counted (r .list))
-                → stored o list file (r .list) c p ≡ loading o list file lent
-            loads c p e small named =
-                let (blocked, events, same-place) = place-marked (blocking-stops o (lent .special) (lent .journal) (lent .records) (lent .codes)) m quiet in
-                named-place c blocked p events e small (named ∙ same-place (o .n) (o .c) (o .counter) (counted (r .list)) (card .most) (card .counters))
+      -- What is done when the rest is read, over fresh marks.
+      pub ends : {marks : List Bool} {x : Refusal} → Marking (restRead o lent) (λ b. b) (replicate 9 false) marks x
+          → ended o list file (lent .new) x (marked marks) r ≡ loading o list file lent
+      unfolding ended
+      ends {marks} {x} m = go (eqb (r .refusal .number) 0) refl (eqb (x .number) 0) refl
+        where
+          go : (a : Bool) → eqb (r .refusal .number) 0 ≡ a → (b : Bool) → eqb (x .number) 0 ≡ b
+              → pick a (pick b (stored o list file (r .list) (lent .new) (place (marked marks) (o .n) (o .c) (o .counter) (counted (r .list)))) (loaded x 0 list file)) (loaded (r .refusal) 0 list file)
+              ≡ loading o list file lent
+          go true e true f = loads (eqb-true _ _ e) m (eqb-true _ _ f)
+          go true e false f = refused-rest (eqb-true _ _ e) m (eqb-false _ _ f)
+          go false e b f = refused-list (eqb-false _ _ e)

@@ -19,13 +19,17 @@ use Rattle.records.specs.declared.Refusal.{Refusal}
 use Rattle.records.specs.declared.event.Event.{Event}
 use Rattle.records.specs.declared.event.EventRead.{EventRead}
 use Rattle.records.specs.declared.event.EventRead.the-variants.{Read, Refused}
+use Rattle.contract.specs.Contract.{contractRead}
+use Rattle.contract.specs.declared.Contract.{Contract}
+use Rattle.contract.specs.declared.ContractRead.the-variants as contracts
 use Rattle.lists.specs.Special.{specialRead}
 use Rattle.lists.specs.declared.special.SpecialRead.{SpecialRead}
 use Rattle.loading.specs.Blocking.{some, moment, blocks, namedBySpecial, blocked}
-use Rattle.loading.specs.Loading.{blocking}
+use Rattle.loading.specs.Loading.{Lent, contractGot, blocking}
 use Rattle.loading.specs.declared.Order.{Order}
-use Rattle.loading.proofs.Told.{Stops, events-stop}
 use Rattle.loading.specs.inner.Marks.{marked, Added, Marking}
+use Rattle.loading.specs.inner.Store.{restRead}
+use Rattle.loading.proofs.Told.{Stops, events-stop, blocking-stops}
 
 apart : {A : Type 0} {r : Refusal} {a : A} → stopped r ≡ got a → ⊥
 apart e = let z : _≡_ {A = ℕ} 0 1 = cc in omega arith
@@ -187,3 +191,38 @@ module _ (o : Order) (special journal records codes : List ℕ) {r : SpecialRead
                     each = λ p few. second .marks fs refl .each p few ∙ rw (first .marks es refl .each p few, or-assoc (marked before p) (some (blocks codes (moment (o .day) (o .minute)) (o .hours) p) es) (namedBySpecial (take (r .list .count) (r .list .entries)) p 1 fs));
                   };
             }
+
+module _ (o : Order) (lent : Lent) {before after : List Bool} {x : Refusal}
+    (m : Marking (blocking o (lent .special) (lent .journal) (lent .records) (lent .codes)) (λ b. b) before after x) where
+  -- The events are refused.
+  pub rest-unread : (x .number ≡ 0 → ⊥) → Marking (restRead o lent) (λ b. b) before after x
+  unfolding restRead
+  rest-unread bad = go (blocking o (lent .special) (lent .journal) (lent .records) (lent .codes)) m
+    where
+      go : (t : Attempt (ℕ → Bool)) → Marking t (λ b. b) before after x
+          → Marking (next t (λ b. next (contractGot (contractRead (o .kind) (lent .new))) (λ new. got b))) (λ b. b) before after x
+      go (got b) k = absurd (bad (ap (λ (t : Refusal). t .number) (k .answer)))
+      go (stopped t) k = record { answer = k .answer; long = k .long; marks = λ b same. absurd (apart same) }
+
+  module _ (quiet : x .number ≡ 0) where
+    -- They are read, and the new contract is refused.
+    pub rest-refused : (y : Refusal) → contractRead (o .kind) (lent .new) ≡ contracts.Refused y → Marking (restRead o lent) (λ b. b) before after y
+    unfolding restRead
+    rest-refused y e =
+        rw e (go (blocking o (lent .special) (lent .journal) (lent .records) (lent .codes)) (blocking-stops o (lent .special) (lent .journal) (lent .records) (lent .codes)) m)
+      where
+        go : (t : Attempt (ℕ → Bool)) → Stops t → Marking t (λ b. b) before after x
+            → Marking {A = ℕ → Bool} (next t (λ b. stopped y)) (λ b. b) before after y
+        go (got b) told k = record { answer = refl; long = k .long; marks = λ b same. absurd (apart same) }
+        go (stopped t) told k = absurd (told .some (sym (ap (λ (r : Refusal). r .number) (k .answer)) ∙ quiet))
+
+    -- All is read.
+    pub rest-read : (c : Contract) → contractRead (o .kind) (lent .new) ≡ contracts.Read c → Marking (restRead o lent) (λ b. b) before after (refusal 0 0)
+    unfolding restRead
+    rest-read c e =
+        rw e (go (blocking o (lent .special) (lent .journal) (lent .records) (lent .codes)) (blocking-stops o (lent .special) (lent .journal) (lent .records) (lent .codes)) m)
+      where
+        go : (t : Attempt (ℕ → Bool)) → Stops t → Marking t (λ b. b) before after x
+            → Marking (next t (λ b. got b)) (λ b. b) before after (refusal 0 0)
+        go (got b) told k = record { answer = refl; long = k .long; marks = k .marks }
+        go (stopped t) told k = absurd (told .some (sym (ap (λ (r : Refusal). r .number) (k .answer)) ∙ quiet))

@@ -21,8 +21,9 @@ use Rattle.lists.proofs.list.Laws.{list-comes}
 use Rattle.lists.proofs.special.Laws.{special-comes}
 use Rattle.contract.specs.Contract.{contractRead}
 use Rattle.contract.proofs.Laws.{contract-comes}
-use Rattle.loading.specs.Loading.{specials, contractGot, blocking}
+use Rattle.loading.specs.Loading.{Lent, specials, contractGot, blocking}
 use Rattle.loading.specs.inner.Marks.{refusalOf}
+use Rattle.loading.specs.inner.Store.{restRead}
 use Rattle.loading.specs.declared.Order.{Order}
 
 pub apart : {A X : Type 0} {a : A} {r : Refusal} → got a ≡ stopped r → X
@@ -76,3 +77,10 @@ blocking-stops o special journal records codes =
     next-stops (specials (specialRead (o .s) special)) _ (specials-stop (o .s) special)
     (λ entries. next-stops (events (length journal / 29) journal 0) _ (events-stop (length journal / 29) journal 0)
     (λ es. next-stops (events (o .s) records 0) _ (events-stop (o .s) records 0) (λ fs. tt)))
+
+pub rest-stops : (o : Order) (lent : Lent) → Stops (restRead o lent)
+unfolding restRead
+rest-stops o lent =
+    next-stops (blocking o (lent .special) (lent .journal) (lent .records) (lent .codes)) _
+    (blocking-stops o (lent .special) (lent .journal) (lent .records) (lent .codes))
+    (λ is-blocked. next-stops (contractGot (contractRead (o .kind) (lent .new))) _ (contract-stops (o .kind) (lent .new)) (λ new. tt))

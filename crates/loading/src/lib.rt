@@ -5,10 +5,11 @@ mod place;
 ghost use mathlib.Core.Path.{_≡_};
 ghost use Prim.Native.Nat.{_*_, _≤_};
 ghost use lib.ListN.{length};
-ghost use Rattle.loading.specs.inner.Store.{stored};
+ghost use Rattle.lists.specs.List.{listRead};
+ghost use Rattle.loading.specs.inner.Marks.{marked, Marking};
+ghost use Rattle.loading.specs.inner.Store.{restRead, ended, stored};
 ghost use Rattle.loading.specs.Loading.{Lent, Outcome, lengths, lengthsOf, networkFits, entryFits, limits, newEntry, loading};
 ghost use Rattle.loading.specs.inner.Unread.{unread};
-use contract::Contract;
 use contract::ContractRead;
 use lists::list;
 use lists::list::ContractList;
@@ -192,49 +193,95 @@ pub fn load(
     if unread.number != 0 {
         return Loaded::refused(unread);
     }
+    let mut marks = [false; 9];
+    let rest = read_rest(special, journal, records, new, codes, order, &mut marks);
+    settle(list, file, new, rest, &marks, order)
+}
+
+// Reads all but the contract list, in order: the events, marking the pointers that they block, and the new contract.
+fn read_rest(
+    special: &[u8],
+    journal: &[u8],
+    records: &[u8],
+    new: &[u8],
+    codes: &[u8],
+    order: Order,
+    marks: &mut [bool],
+) -> Refusal
+    requires { ⌜ (length (now marks) ≡ 9) × (length (now records) ≡ 29 * order .s) ⌝ }
+    ensures { λ r. ⌜ Marking (restRead order (record { special = now (special .entry); journal = now (journal .entry); records = now (records .entry); new = now (new .entry); codes = now (codes .entry) })) (λ blocked. blocked) (now (marks .entry)) (now (marks .exit)) r ⌝ }
+{
+    let refusal = blocking::mark_all(special, journal, records, codes, order, marks);
+    if refusal.number != 0 {
+        return refusal;
+    }
+    match contract::read(new, order.kind) {
+        ContractRead::Read(_) => Refusal::NONE,
+        ContractRead::Refused(refusal) => refusal,
+    }
+}
+
+// What is left to do when the rest is read. The list is read last, so that no value of it waits while events and contracts are
+// read; its refusal still comes first.
+fn settle(
+    list: &mut [u8],
+    file: &mut [u8],
+    new: &[u8],
+    rest: Refusal,
+    marks: &[bool],
+    order: Order,
+) -> Loaded
+    requires { ⌜ (length (now marks) ≡ 9) × (order .n ≤ 8) × (order .c ≤ order .n) × (length (now file) ≡ 29 * order .n) × (length (now new) ≡ 29) ⌝ }
+    ensures { λ r. ⌜ record { answer = r; list = now (list .exit); file = now (file .exit) }
+        ≡ ended order (now (list .entry)) (now (file .entry)) (now (new .entry)) rest (marked (now (marks .entry))) (listRead (order .n) (now (list .entry))) ⌝ }
+{
     let read = list::read(list, order.n);
     if read.refusal.number != 0 {
         return Loaded::refused(read.refusal);
     }
-    let mut marks = [false; 9];
-    let refusal = blocking::mark_all(special, journal, records, codes, order, &mut marks);
-    if refusal.number != 0 {
-        return Loaded::refused(refusal);
+    if rest.number != 0 {
+        return Loaded::refused(rest);
     }
-    match contract::read(new, order.kind) {
-        ContractRead::Read(contract) => {
-            let pointer = place::place(read.list, &marks, order);
-            store(list, file, read.list, contract, pointer, order)
-        }
-        ContractRead::Refused(refusal) => Loaded::refused(refusal),
-    }
+    let pointer = place::place(read.list, marks, order);
+    store(list, file, read.list, new, pointer, order)
 }
 
-// What is left to do when the pointer is known: 9 where there is none; else the list, and where it fits the new contract.
+// What is left to do when the pointer is known: 9 where there is none; else the list, and where it fits the new record.
 fn store(
     list: &mut [u8],
     file: &mut [u8],
     old: ContractList,
-    new: Contract,
+    new: &[u8],
     pointer: u32,
     order: Order,
 ) -> Loaded
-    requires { ⌜ 29 * pointer ≤ length (now file) ⌝ }
-    ensures { λ r. ⌜ record { answer = r; list = now (list .exit); file = now (file .exit) } ≡ stored order (now (list .entry)) (now (file .entry)) old new pointer ⌝ }
+    requires { ⌜ (29 * pointer ≤ length (now file)) × (length (now new) ≡ 29) ⌝ }
+    ensures { λ r. ⌜ record { answer = r; list = now (list .exit); file = now (file .exit) } ≡ stored order (now (list .entry)) (now (file .entry)) old (now (new .entry)) pointer ⌝ }
 {
     if pointer == 0 {
         return Loaded::refused(Refusal::NO_POSITION);
     }
-    let left = old.without(pointer);
-    let renewed = left.with(order.entry(pointer));
+    let renewed = old.without(pointer).with(order.entry(pointer));
     let refusal = list::write(list, order.n, renewed);
     if refusal.number != 0 {
         return Loaded::refused(refusal);
     }
     let start = BYTES * (pointer as usize - 1);
-    contract::write(&mut file[start..start + BYTES], order.kind, new);
+    copy(new, &mut file[start..start + BYTES]);
     Loaded {
         refusal: Refusal::NONE,
         pointer,
+    }
+}
+
+// Copies a record. It was read, so that to write what was read would give the same bytes.
+fn copy(from: &[u8], to: &mut [u8])
+    requires { ⌜ length (now from) ≡ length (now to) ⌝ }
+    ensures { λ r. ⌜ now (to .exit) ≡ now (from .entry) ⌝ }
+{
+    let mut i = 0;
+    while i < to.len() {
+        to[i] = from[i];
+        i += 1;
     }
 }

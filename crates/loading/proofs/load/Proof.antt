@@ -1,9 +1,8 @@
 use Rattle.loading.specs.Loading.{Lent, lengthsOf}
 use Rattle.loading.specs.inner.Unread.{unread}
-use Rattle.loading.proofs.Ending.{Card, unread-none, place-inside, refused-unread, refused-list, refused-events, refused-contract, loads}
+use Rattle.loading.proofs.Ending.{Card, unread-none, refused-unread, ends}
 use mathlib.Core.Path.{_≡_, refl, sym, ap, _∙_}
 use Rattle.records.specs.declared.Refusal.{Refusal}
-use Rattle.contract.proofs.Telling.{contract-one}
 use borrow.Author.Needs.{needs}
 use Rattle.loading.proofs.load.Statement.{statement}
 use Rattle.loading.proofs.load.Tie as tie
@@ -34,40 +33,20 @@ cardOf d =
 returns : tie.Need-returns
 returns c = rw (c .refused .ensures) (refused-unread _ _ _ _ _ (asked (c .before .before .before)) (c .before .if1 .taken))
 
-returns-2 : tie.Need-returns-2
-returns-2 c =
-    let card = cardOf (c .before .before .before .before .before) in
-    rw (c .refused2 .ensures) (refused-list _ _ _ _ card _ (c .before .before .before .read .ensures) (c .before .if2 .taken))
-
-mark-all-requires : tie.Need-mark-all-requires
-mark-all-requires c κs =
-    let card = cardOf (c .before .before .before .before .before) in
+read-rest-requires : tie.Need-read-rest-requires
+read-rest-requires c κs =
+    let card = cardOf (c .before) in
     (refl, card .records-long)
 
-returns-3 : tie.Need-returns-3
-returns-3 c =
-    let card = cardOf (c .before .before .before .before .before .before .before .before .before .before) in
-    rw (c .refused3 .ensures) (refused-events _ _ _ _ card _ (c .before .before .before .before .before .before .before .before .read .ensures) (c .before .before .before .before .before .before .if2 .left) (c .before .before .before .before .mark-all .ensures) (c .before .if3 .taken))
+settle-requires : tie.Need-settle-requires
+settle-requires c κs =
+    let card = cardOf (c .before .before .before .before .before .before) in
+    (c .before .before .before .before .read-rest .ensures .long, card .most, card .counters, card .file-long, card .new-long)
 
-place-requires : tie.Need-place-requires
-place-requires c κs =
-    let card = cardOf (c .before .before .before .before .before .before .before .before .before .before .before .before .before .before) in
-    (c .before .before .before .before .before .before .before .before .mark-all .ensures .long, card .most, card .counters)
-
-store-requires : tie.Need-store-requires
-store-requires c κs =
-    let card = cardOf (c .before .before .before .before .before .before .before .before .before .before .before .before .before .before .before .before .before) in
-    place-inside _ _ _ _ card _ _ _ (c .before .before .place .ensures)
-
-returns-4 : tie.Need-returns-4
-returns-4 c =
-    let card = cardOf (c .before .before .before .before .before .before .before .before .before .before .before .before .before .before .before .before .before .before .before .before .before .before) in
-    c .before .before .before .before .store .ensures ∙ loads _ _ _ _ card _ (c .before .before .before .before .before .before .before .before .before .before .before .before .before .before .before .before .before .before .before .before .read .ensures) (c .before .before .before .before .before .before .before .before .before .before .before .before .before .before .before .before .before .before .if2 .left) (c .before .before .before .before .before .before .before .before .before .before .before .before .before .before .before .before .mark-all .ensures) (c .before .before .before .before .before .before .before .before .before .before .before .before .before .if3 .left) _ _ (sym (contract-one _ _ (c .before .before .before .before .before .before .before .before .before .before .before .before .read2 .ensures)) ∙ c .before .before .before .before .before .before .before .before .before .before .contract .given .1) (λ i. c .before .before .before .before .before .before .before .before .before .before .before .before .before .before .before .before .before .before .before .before .before .before .before .before .before .before .before .before .before .shared-slice-known4 .given i .fits) (c .before .before .before .before .before .before .before .place .ensures)
-
-returns-5 : tie.Need-returns-5
-returns-5 c =
-    let card = cardOf (c .before .before .before .before .before .before .before .before .before .before .before .before .before .before) in
-    rw (c .refused4 .ensures) (refused-contract _ _ _ _ card _ (c .before .before .before .before .before .before .before .before .before .before .before .before .read .ensures) (c .before .before .before .before .before .before .before .before .before .before .if2 .left) (c .before .before .before .before .before .before .before .before .mark-all .ensures) (c .before .before .before .before .before .if3 .left) _ (sym (contract-one _ _ (c .before .before .before .before .read2 .ensures)) ∙ c .before .before .refusal .given .1))
+returns-2 : tie.Need-returns-2
+returns-2 c =
+    let card = cardOf (c .before .before .before .before .before .before .before .before .before .before .before) in
+    c .before .before .before .before .settle .ensures ∙ ends _ _ _ _ card _ refl (c .before .before .before .before .before .before .before .before .before .read-rest .ensures)
 
 pub load-spec : {M : Type 1} → statement M
 load-spec =
@@ -79,27 +58,10 @@ load-spec =
     (λ c. search needs)
     (λ c. search needs)
     returns
-    (λ c κs. search needs)
-    (λ c κs. search needs)
+    (λ c. search needs)
+    read-rest-requires
+    (λ c. search needs)
+    settle-requires
     (λ c. search needs)
     (λ c. search needs)
-    returns-2
-    (λ c. search needs)
-    mark-all-requires
-    (λ c κs. search needs)
-    (λ c. search needs)
-    (λ c. search needs)
-    returns-3
-    (λ c κs. search needs)
-    (λ c. search needs)
-    (λ c. search needs)
-    place-requires
-    store-requires
-    (λ c. search needs)
-    (λ c κs. search needs)
-    (λ c. search needs)
-    (λ c. search needs)
-    returns-4
-    (λ c. search needs)
-    (λ c. search needs)
-    returns-5)
+    returns-2)

@@ -16,9 +16,10 @@ returns-2 c =
 
 returns-3 : tie.Need-returns-3
 returns-3 c =
-    let at : ℕ = 29 * (c .before .before .before .before .before .before .before .before .before .before .before .before .before .before .before .before .args .pointer - 1) in
+    let at : ℕ = 29 * (c .before .before .before .before .before .before .before .before .before .before .before .before .before .before .before .before .before .args .pointer - 1) in
     let size : at + 29 - at ≡ 29 = omega arith in
-    store-done _ _ _ _ _ _ (c .before .before .before .before .before .before .before .before .before .before .before .before .before .if1 .left) (c .before .before .before .before .before .before .before .before .before .before .before .before .without .ensures) (c .before .before .before .before .before .before .before .before .before .before .before .entry .ensures) (c .before .before .before .before .before .before .before .before .before .before .with .ensures) (c .before .before .before .before .before .before .before .before .write .ensures) _ _ _ size (c .before .before .before .before .if2 .left) (c .before .before .write2 .ensures)
+    rw (c .before .before .copy .ensures)
+    (store-done _ _ _ _ _ _ (c .before .before .before .before .before .before .before .before .before .before .before .before .before .if1 .left) (c .before .before .before .before .before .before .before .before .before .before .before .before .without .ensures) (c .before .before .before .before .before .before .before .before .before .before .before .entry .ensures) (c .before .before .before .before .before .before .before .before .before .before .with .ensures) (c .before .before .before .before .before .before .before .before .write .ensures) _ size (c .before .before .before .before .if2 .left))
 
 pub store-spec : {M : Type 1} → statement M
 store-spec =

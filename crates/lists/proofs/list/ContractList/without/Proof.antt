@@ -1,43 +1,55 @@
-use mathlib.Core.List.{List}
-use Rattle.lists.specs.declared.list.Entry.{Entry}
 use Prim.Native.Nat.{_≤_, _-_}
 use native.Mathlib.Omega.{arith}
-use lib.Seq.{take-all}
-use Rattle.lists.proofs.Listing.{length-of-map}
-use Rattle.lists.proofs.Entries.{length-counted, without-next}
+use mathlib.Core.Path.{_≡_, ap, _∙_}
+use mathlib.Core.Logic.{⊎-elim}
+use lib.ListN.{length}
 use borrow.Author.Needs.{needs}
-use mathlib.Core.Path.{_≡_, refl, ap, _∙_}
-use lib.ListN.{length, take}
-use Rattle.lists.specs.Entries.{counted, listing, without}
+use Rattle.lists.specs.Entries.{counted, listing}
+use Rattle.lists.proofs.Listing.{length-of-map}
+use Rattle.lists.proofs.Entries.{length-counted, Thinning, thinning-start, thinning-out, thinning-kept, thinning-all, Clearing, clearing-start, clearing-more, clearing-all}
 use Rattle.lists.proofs.list.ContractList.without.Statement.{statement}
 use Rattle.lists.proofs.list.ContractList.without.Tie as tie
 
 abbrev Inv-loop : tie.InvT-loop
-Inv-loop pointer self left₀ n i₀ left i = (i ≤ n) × (n ≤ 8) × (n ≡ length (counted self)) × (left ≡ listing (without pointer (take i (counted self))))
+Inv-loop pointer self₀ n left₀ i₀ self left i = (i ≤ n) × (n ≤ 8) × Thinning pointer self₀ (self .entries) left i
 
 abbrev μ-loop : tie.MeasureT-loop
-μ-loop pointer self left₀ n i₀ left i = n - i
+μ-loop pointer self₀ n left₀ i₀ self left i = n - i
 
-loop-holds : tie.Need-loop-holds Inv-loop μ-loop
+-- Here `self₀` is the list with its new count.
+abbrev Inv-loop2 : tie.InvT-loop2
+Inv-loop2 pointer self₀ n left₀ i self left = Clearing (counted self₀) self left
+
+abbrev μ-loop2 : tie.MeasureT-loop2
+μ-loop2 pointer self₀ n left₀ i self left = 8 - left
+
+loop-holds : tie.Need-loop-holds Inv-loop μ-loop Inv-loop2 μ-loop2
 loop-holds c =
-    let eight : length (c .before .args .t1 .entries) ≡ 8 = search (needs, length-of-map) in
-    let sized = c .len .ensures in
-    (search needs, omega (arith, length-counted (c .before .args .t1) eight, sized), sized, refl)
+    let list = c .before .args .t1 in
+    let eight : length (list .entries) ≡ 8 = search (needs, length-of-map) in
+    (search needs, omega (arith, length-counted list eight, c .len .ensures), thinning-start _ list eight)
 
-loop-again : tie.Need-loop-again Inv-loop μ-loop
+loop-again : tie.Need-loop-again Inv-loop μ-loop Inv-loop2 μ-loop2
 loop-again c =
-    let self = c .before .before .before .before .before .args .t1 in
-    let eight : length (self .entries) ≡ 8 = search (needs, length-of-map) in
-    let inv = c .before .before .before .loop .inv in
-    let counts = inv .2 in
-    let more = c .before .before .loop-test .taken in
-    (omega arith, inv .1, counts, c .with-other .ensures ∙ without-next self _ _ _ _ eight (omega (arith, more, counts)) (inv .3))
+    let inv = c .before .before .before .before .loop .inv in
+    let more = rw (c .before .before .before .before .before .len .ensures) at (c .before .before .before .loop-test .taken) in (
+      omega arith,
+      inv .1,
+      ⊎-elim (λ w. rw (w .1, w .2) (thinning-kept (inv .2) _ more (w .0 .taken)))
+          (λ w. rw (w .1, w .2) (thinning-out (inv .2) _ more (w .0 .left)))
+          (c .if1 .came),
+    )
 
-returns : tie.Need-returns Inv-loop μ-loop
+loop2-holds : tie.Need-loop2-holds Inv-loop μ-loop Inv-loop2 μ-loop2
+loop2-holds c = clearing-start _ (c .before .loop .inv .2 .eight) (omega arith)
+
+loop2-again : tie.Need-loop2-again Inv-loop μ-loop Inv-loop2 μ-loop2
+loop2-again c = clearing-more (c .before .loop2 .inv) (omega arith)
+
+returns : tie.Need-returns Inv-loop μ-loop Inv-loop2 μ-loop2
 returns c =
-    let inv = c .before .loop .inv in
-    let counts = inv .2 in
-    inv .3 ∙ ap (λ (es : List Entry). listing (without (c .before .before .before .args .pointer) es)) (take-all (c .before .loop .i) (counted (c .before .before .before .args .t1)) (omega (arith, counts, c .loop-test .left)))
+    let all = rw (c .before .before .before .before .len .ensures) at (c .before .before .loop-test .left) in
+    clearing-all (c .before .loop2 .inv) (omega arith) ∙ ap listing (thinning-all (c .before .before .before .loop .inv .2) all)
 
 pub without-spec : {M : Type 1} → statement M
 without-spec =
@@ -45,12 +57,23 @@ without-spec =
     (tie.spec
     Inv-loop
     μ-loop
+    Inv-loop2
+    μ-loop2
     (λ c κs. search needs)
     loop-holds
     (λ c. search needs)
     (λ c. search needs)
-    (λ c κs. search needs)
+    (λ c. search needs)
+    (λ c. search needs)
+    (λ c. search needs)
     (λ c. search needs)
     (λ c. search needs)
     loop-again
+    (λ c. search needs)
+    loop2-holds
+    (λ c. search needs)
+    (λ c. search needs)
+    (λ c. search needs)
+    (λ c. search needs)
+    loop2-again
     returns)
