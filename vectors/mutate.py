@@ -48,8 +48,21 @@ def without_margins(line, values):
 """
 
 
-READ_JOURNAL = """    journal_events = read_events(journal)
-"""
+READINGS = {
+    "list": """    entries = contract_entries(read_contract_list(contract_list, positions))
+""",
+    "special list": """    listed_specials = special_entries(read_special_list(special_list, specials))
+""",
+    "journal": """    journal_events = read_events(journal)
+""",
+    "records": """    special_events = read_events(records)
+""",
+    "new contract": """    read_contract(new, kind)
+""",
+}
+READ_JOURNAL = READINGS["journal"]
+KEPT = "    kept = [entry for entry in entries if entry.pointer != pointer]\n"
+NEW_FILE = "    new_file = file[:RECORD * (pointer - 1)] + new + file[RECORD * pointer:]\n"
 PEEK = """    def peek(record):
         unchecked = type("Unchecked", (Reading,), {"refuse": lambda *_: None})(record)
         try:
@@ -69,6 +82,18 @@ MARKED_EVENTS = """    marked_events = [event for event in journal_events if mar
 """
 CODES_LENGTH = ", (codes, ALL_CODES))"
 LAST_LIMIT = """network < (1 << 24 if has_network else 1))
+"""
+
+
+def read_in_order(*names):
+    """What loading reads, in this order instead of its own."""
+    return "".join(READINGS.values()), "".join(READINGS[name] for name in names)
+
+
+def at_removed(kept):
+    """The entries kept, where the one that has the pointer is at `at`; it is past the end if none has."""
+    return f"""    at = next((index for index, entry in enumerate(entries) if entry.pointer == pointer), len(entries))
+    kept = {kept}
 """
 
 
@@ -904,6 +929,34 @@ MUTATIONS = [
         words.insert(6, b"FF" * ALL_CODES)
     if len(words) != len(kinds):
 """),
+
+    # Q-5: the order of reading
+    ("loading reads the list after all else",
+     *read_in_order("special list", "journal", "records", "new contract", "list")),
+    ("loading reads the list after the special event list",
+     *read_in_order("special list", "list", "journal", "records", "new contract")),
+    ("loading reads the journal before the special event list",
+     *read_in_order("list", "journal", "special list", "records", "new contract")),
+    ("loading reads the special event records before the journal",
+     *read_in_order("list", "special list", "records", "journal", "new contract")),
+    ("loading reads the new contract before the special event records",
+     *read_in_order("list", "special list", "journal", "new contract", "records")),
+    ("loading reads the new contract first",
+     *read_in_order("new contract", "list", "special list", "journal", "records")),
+
+    # Q-5: an entry removed, and the new record put in its place
+    ("the entry behind the removed one is lost",
+     KEPT, at_removed("entries[:at] + entries[at + 2:]")),
+    ("the entry before the removed one is lost",
+     KEPT, at_removed("entries[:max(at - 1, 0)] + entries[at + 1:]")),
+    ("the last entry takes the place of the removed one",
+     KEPT, at_removed("entries[:at] + entries[at + 1:][-1:] + entries[at + 1:][:-1]")),
+    ("the removed entry stays where it was the last",
+     KEPT, at_removed("entries[:at] + (entries[at + 1:] or entries[at:])")),
+    ("the last byte of the old record stays",
+     NEW_FILE, NEW_FILE.replace("new + file[RECORD * pointer:]", "new[:-1] + file[RECORD * pointer - 1:]")),
+    ("the first byte of the old record stays",
+     NEW_FILE, NEW_FILE.replace("(pointer - 1)] + new", "(pointer - 1) + 1] + new[1:]")),
 ]
 
 UNCHANGED = "nothing", "LONGEST_LINE = 8192", "LONGEST_LINE = 8192"

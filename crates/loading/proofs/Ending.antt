@@ -24,13 +24,14 @@ use Rattle.contract.specs.Contract.{contractRead}
 use Rattle.contract.specs.declared.Contract.{Contract}
 use Rattle.loading.specs.Blocking.{some}
 use Rattle.loading.specs.Place.{free, place, afterwards}
-use Rattle.loading.specs.Loading.{Lent, Found, found, lengths, lengthsOf, entryFits, limits, contractGot, loaded, newEntry, blocking, placing, finding, settled, loading}
+use Rattle.loading.specs.Loading.{Lent, Found, found, Outcome, lengths, lengthsOf, entryFits, limits, contractGot, loaded, newEntry, blocking, placing, finding, settled, loading}
 use Rattle.loading.specs.inner.Unread.{unread}
 use Rattle.loading.specs.inner.Marks.{marked, refusalOf, Marking}
 use Rattle.loading.specs.inner.Store.{renewed, stored, restRead, ended}
 use Rattle.loading.specs.declared.Order.{Order}
 use Rattle.loading.proofs.Placing.{Named, placed-free-or-erasable, place-marked}
-use Rattle.loading.proofs.Told.{rest-stops}
+use Rattle.loading.proofs.Told.{rest-stops, rest-contract}
+use Rattle.loading.proofs.Storing.{end-accepted}
 
 -- An entry that has the pointer leaves.
 leaves : (e : Entry) (es : List Entry) (p : ℕ) → List·Memᴰ e es → e .pointer ≡ p → length (without p es) < length es
@@ -211,3 +212,18 @@ module _ (o : Order) (list file : List ℕ) (lent : Lent) where
           go true e true f = loads (eqb-true _ _ e) m (eqb-true _ _ f)
           go true e false f = refused-rest (eqb-true _ _ e) m (eqb-false _ _ f)
           go false e b f = refused-list (eqb-false _ _ e)
+
+    -- What writing the new contract to its place asks for, where the end is accepted.
+    pub accepts : {marks : List Bool} {x : Refusal} (out : Outcome)
+        → out ≡ ended o list file (lent .new) x (marked marks) (listRead (o .n) list)
+        → Marking (restRead o lent) (λ b. b) (replicate 9 false) marks x → out .answer .refusal .number ≡ 0
+        → (1 ≤ out .answer .pointer) × (29 * out .answer .pointer ≤ length file) × (length (lent .new) ≡ 29)
+        × (refusalOf (contractGot (contractRead (o .kind) (lent .new))) .number ≡ 0)
+    accepts {marks} {x} out same m zero =
+        let told = end-accepted o list file (lent .new) x (marked marks) (listRead (o .n) list) out same zero in
+        let (blocked, all, same-place) = place-marked (rest-stops o lent) m (told .quiet) in (
+          omega (arith, told .some),
+          place-inside o file (marked marks) (counted (listRead (o .n) list .list)) (out .answer .pointer) (card .counters) (card .file-long) (told .named),
+          card .new-long,
+          rest-contract o lent blocked all,
+        )

@@ -1,9 +1,9 @@
 -- Which refusals the steps of loading can give: none is 0, so that the number tells whether there was one, and none but the last
 -- is 9.
 use Prim.Native.Nat.{ℕ, zero, suc, _/_}
-use mathlib.Core.Path.{_≡_, refl}
+use mathlib.Core.Path.{_≡_, refl, sym}
 use mathlib.Core.List.{List, [], _∷_}
-use mathlib.Core.Bool.{true}
+use mathlib.Core.Bool.{Bool, true}
 use native.Mathlib.Omega.{arith}
 use lib.ListN.{length}
 use borrow.Author.Tests.{ne-eqb}
@@ -20,6 +20,7 @@ use Rattle.lists.specs.Special.{specialRead}
 use Rattle.lists.proofs.list.Laws.{list-comes}
 use Rattle.lists.proofs.special.Laws.{special-comes}
 use Rattle.contract.specs.Contract.{contractRead}
+use Rattle.contract.specs.declared.Contract.{Contract}
 use Rattle.contract.proofs.Laws.{contract-comes}
 use Rattle.loading.specs.Loading.{Lent, specials, contractGot, blocking}
 use Rattle.loading.specs.inner.Marks.{refusalOf}
@@ -84,3 +85,13 @@ rest-stops o lent =
     next-stops (blocking o (lent .special) (lent .journal) (lent .records) (lent .codes)) _
     (blocking-stops o (lent .special) (lent .journal) (lent .records) (lent .codes))
     (λ is-blocked. next-stops (contractGot (contractRead (o .kind) (lent .new))) _ (contract-stops (o .kind) (lent .new)) (λ new. tt))
+
+-- Where the rest is read, so is the new contract.
+pub rest-contract : (o : Order) (lent : Lent) (b : ℕ → Bool) → restRead o lent ≡ got b → refusalOf (contractGot (contractRead (o .kind) (lent .new))) .number ≡ 0
+unfolding restRead
+rest-contract o lent b = go (blocking o (lent .special) (lent .journal) (lent .records) (lent .codes)) (contractGot (contractRead (o .kind) (lent .new)))
+  where
+    go : (t : Attempt (ℕ → Bool)) (u : Attempt Contract) → next t (λ is-blocked. next u (λ new. got is-blocked)) ≡ got b → refusalOf u .number ≡ 0
+    go t (got c) e = refl
+    go (got a) (stopped r) e = apart (sym e)
+    go (stopped s) (stopped r) e = apart (sym e)

@@ -3,12 +3,14 @@ mod blocking;
 mod place;
 
 ghost use mathlib.Core.Path.{_≡_};
-ghost use Prim.Native.Nat.{_*_, _≤_};
+ghost use mathlib.Core.List.{List};
+ghost use Prim.Native.Nat.{ℕ, _*_, _≤_};
 ghost use lib.ListN.{length};
 ghost use Rattle.lists.specs.List.{listRead};
-ghost use Rattle.loading.specs.inner.Marks.{marked, Marking};
-ghost use Rattle.loading.specs.inner.Store.{restRead, ended, stored};
-ghost use Rattle.loading.specs.Loading.{Lent, Outcome, lengths, lengthsOf, networkFits, entryFits, limits, newEntry, loading};
+ghost use Rattle.contract.specs.Contract.{contractRead};
+ghost use Rattle.loading.specs.inner.Marks.{marked, refusalOf, Marking};
+ghost use Rattle.loading.specs.inner.Store.{restRead, fileAfter, stored, ended};
+ghost use Rattle.loading.specs.Loading.{Lent, Outcome, lengths, lengthsOf, networkFits, entryFits, limits, contractGot, newEntry, placed, loading};
 ghost use Rattle.loading.specs.inner.Unread.{unread};
 use contract::ContractRead;
 use lists::list;
@@ -195,7 +197,12 @@ pub fn load(
     }
     let mut marks = [false; 9];
     let rest = read_rest(special, journal, records, new, codes, order, &mut marks);
-    settle(list, file, new, rest, &marks, order)
+    let loaded = settle(list, rest, &marks, order);
+    if loaded.refusal.number != 0 {
+        return loaded;
+    }
+    put_new(file, new, order.kind, loaded.pointer);
+    loaded
 }
 
 // Reads all but the contract list, in order: the events, marking the pointers that they block, and the new contract.
@@ -221,19 +228,12 @@ fn read_rest(
     }
 }
 
-// What is left to do when the rest is read. The list is read last, so that no value of it waits while events and contracts are
-// read; its refusal still comes first.
-fn settle(
-    list: &mut [u8],
-    file: &mut [u8],
-    new: &[u8],
-    rest: Refusal,
-    marks: &[bool],
-    order: Order,
-) -> Loaded
-    requires { ⌜ (length (now marks) ≡ 9) × (order .n ≤ 8) × (order .c ≤ order .n) × (length (now file) ≡ 29 * order .n) × (length (now new) ≡ 29) ⌝ }
-    ensures { λ r. ⌜ record { answer = r; list = now (list .exit); file = now (file .exit) }
-        ≡ ended order (now (list .entry)) (now (file .entry)) (now (new .entry)) rest (marked (now (marks .entry))) (listRead (order .n) (now (list .entry))) ⌝ }
+// What is to be done with the list when the rest is read. It is read last, so that no value of it waits while events and
+// contracts are read; its refusal still comes first.
+fn settle(list: &mut [u8], rest: Refusal, marks: &[bool], order: Order) -> Loaded
+    requires { ⌜ (length (now marks) ≡ 9) × (order .n ≤ 8) × (order .c ≤ order .n) ⌝ }
+    ensures { λ r. ⌜ ((file new : List ℕ) → record { answer = r; list = now (list .exit); file = fileAfter r new file }
+        ≡ ended order (now (list .entry)) file new rest (marked (now (marks .entry))) (listRead (order .n) (now (list .entry)))) ⌝ }
 {
     let read = list::read(list, order.n);
     if read.refusal.number != 0 {
@@ -243,20 +243,13 @@ fn settle(
         return Loaded::refused(rest);
     }
     let pointer = place::place(read.list, marks, order);
-    store(list, file, read.list, new, pointer, order)
+    store(list, read.list, pointer, order)
 }
 
-// What is left to do when the pointer is known: 9 where there is none; else the list, and where it fits the new record.
-fn store(
-    list: &mut [u8],
-    file: &mut [u8],
-    old: ContractList,
-    new: &[u8],
-    pointer: u32,
-    order: Order,
-) -> Loaded
-    requires { ⌜ (29 * pointer ≤ length (now file)) × (length (now new) ≡ 29) ⌝ }
-    ensures { λ r. ⌜ record { answer = r; list = now (list .exit); file = now (file .exit) } ≡ stored order (now (list .entry)) (now (file .entry)) old (now (new .entry)) pointer ⌝ }
+// The same when the pointer is known: 9 where there is none; else the list without its entry and with the new one.
+fn store(list: &mut [u8], old: ContractList, pointer: u32, order: Order) -> Loaded
+    ensures { λ r. ⌜ ((file new : List ℕ) → record { answer = r; list = now (list .exit); file = fileAfter r new file }
+        ≡ stored order (now (list .entry)) file old new pointer) ⌝ }
 {
     if pointer == 0 {
         return Loaded::refused(Refusal::NO_POSITION);
@@ -266,22 +259,21 @@ fn store(
     if refusal.number != 0 {
         return Loaded::refused(refusal);
     }
-    let start = BYTES * (pointer as usize - 1);
-    copy(new, &mut file[start..start + BYTES]);
     Loaded {
         refusal: Refusal::NONE,
         pointer,
     }
 }
 
-// Copies a record. It was read, so that to write what was read would give the same bytes.
-fn copy(from: &[u8], to: &mut [u8])
-    requires { ⌜ length (now from) ≡ length (now to) ⌝ }
-    ensures { λ r. ⌜ now (to .exit) ≡ now (from .entry) ⌝ }
+// Writes the new contract to its pointer's place. It was read before, and is read again: its value did not wait while the list was
+// changed.
+fn put_new(file: &mut [u8], new: &[u8], kind: u32, pointer: u32)
+    requires { ⌜ (1 ≤ pointer) × (29 * pointer ≤ length (now file)) × (length (now new) ≡ 29) × (refusalOf (contractGot (contractRead kind (now new))) .number ≡ 0) ⌝ }
+    ensures { λ r. ⌜ now (file .exit) ≡ placed pointer (now (new .entry)) (now (file .entry)) ⌝ }
 {
-    let mut i = 0;
-    while i < to.len() {
-        to[i] = from[i];
-        i += 1;
-    }
+    let ContractRead::Read(contract) = contract::read(new, kind) else {
+        return;
+    };
+    let start = BYTES * (pointer as usize - 1);
+    contract::write(&mut file[start..start + BYTES], kind, contract);
 }

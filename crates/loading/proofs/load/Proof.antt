@@ -1,8 +1,9 @@
 use Rattle.loading.specs.Loading.{Lent, lengthsOf}
 use Rattle.loading.specs.inner.Unread.{unread}
-use Rattle.loading.proofs.Ending.{Card, unread-none, refused-unread, ends}
+use Rattle.loading.proofs.Ending.{Card, unread-none, refused-unread, ends, accepts}
 use mathlib.Core.Path.{_≡_, refl, sym, ap, _∙_}
 use Rattle.records.specs.declared.Refusal.{Refusal}
+use borrow.Author.Tests.{eq-eqb, ne-eqb}
 use borrow.Author.Needs.{needs}
 use Rattle.loading.proofs.load.Statement.{statement}
 use Rattle.loading.proofs.load.Tie as tie
@@ -40,13 +41,27 @@ read-rest-requires c κs =
 
 settle-requires : tie.Need-settle-requires
 settle-requires c κs =
-    let card = cardOf (c .before .before .before .before .before .before) in
-    (c .before .before .before .before .read-rest .ensures .long, card .most, card .counters, card .file-long, card .new-long)
+    let card = cardOf (c .before .before .before .before .before) in
+    (c .before .before .before .read-rest .ensures .long, card .most, card .counters)
 
+-- Refused, the file is as it was.
 returns-2 : tie.Need-returns-2
 returns-2 c =
+    let card = cardOf (c .before .before .before .before .before .before .before .before .before .before) in
+    let done = c .before .before .before .before .settle .ensures (c .before .before .before .before .before .before .before .before .before .before .before .before .before .before .before .before .before .before .before .before .before .before .before .args .file .now) (c .before .before .before .before .before .before .before .before .before .before .before .before .before .before .before .before .before .before .before .before .before .before .before .args .new .now) in
+    (rw (ne-eqb _ _ (c .if2 .taken)) at done) ∙ ends _ _ _ _ card _ refl (c .before .before .before .before .before .before .before .before .read-rest .ensures)
+
+put-new-requires : tie.Need-put-new-requires
+put-new-requires c κs =
     let card = cardOf (c .before .before .before .before .before .before .before .before .before .before .before) in
-    c .before .before .before .before .settle .ensures ∙ ends _ _ _ _ card _ refl (c .before .before .before .before .before .before .before .before .before .read-rest .ensures)
+    let done = c .before .before .before .before .before .settle .ensures (c .before .before .before .before .before .before .before .before .before .before .before .before .before .before .before .before .before .before .before .before .before .before .before .before .args .file .now) (c .before .before .before .before .before .before .before .before .before .before .before .before .before .before .before .before .before .before .before .before .before .before .before .before .args .new .now) in
+    accepts _ _ _ _ card _ done (c .before .before .before .before .before .before .before .before .before .read-rest .ensures) (c .before .if2 .left)
+
+returns-3 : tie.Need-returns-3
+returns-3 c =
+    let card = cardOf (c .before .before .before .before .before .before .before .before .before .before .before .before .before .before) in
+    let done = c .before .before .before .before .before .before .before .before .settle .ensures (c .before .before .before .before .before .before .before .before .before .before .before .before .before .before .before .before .before .before .before .before .before .before .before .before .before .before .before .args .file .now) (c .before .before .before .before .before .before .before .before .before .before .before .before .before .before .before .before .before .before .before .before .before .before .before .before .before .before .before .args .new .now) in
+    rw (c .before .before .put-new .ensures) ((rw (eq-eqb _ _ (c .before .before .before .before .if2 .left)) at done) ∙ ends _ _ _ _ card _ refl (c .before .before .before .before .before .before .before .before .before .before .before .before .read-rest .ensures))
 
 pub load-spec : {M : Type 1} → statement M
 load-spec =
@@ -64,4 +79,8 @@ load-spec =
     settle-requires
     (λ c. search needs)
     (λ c. search needs)
-    returns-2)
+    returns-2
+    put-new-requires
+    (λ c. search needs)
+    (λ c. search needs)
+    returns-3)

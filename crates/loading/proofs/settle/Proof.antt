@@ -1,6 +1,3 @@
-use Rattle.lists.specs.Entries.{counted}
-use Rattle.loading.specs.inner.Marks.{marked}
-use Rattle.loading.proofs.Ending.{place-inside}
 use Rattle.loading.proofs.Storing.{end-list, end-rest, end-store}
 use mathlib.Core.Path.{_∙_}
 use borrow.Author.Needs.{needs}
@@ -8,21 +5,14 @@ use Rattle.loading.proofs.settle.Statement.{statement}
 use Rattle.loading.proofs.settle.Tie as tie
 
 returns : tie.Need-returns
-returns c = rw (c .refused .ensures) (end-list _ _ _ _ _ _ (c .before .before .before .read .ensures) (c .before .if1 .taken))
+returns c file new = rw (c .refused .ensures) (end-list _ _ _ _ _ _ (c .before .before .before .read .ensures) (c .before .if1 .taken))
 
 returns-2 : tie.Need-returns-2
-returns-2 c = rw (c .refused2 .ensures) (end-rest _ _ _ _ _ _ (c .before .before .before .before .before .read .ensures) (c .before .before .before .if1 .left) (c .before .if2 .taken))
-
-store-requires : tie.Need-store-requires
-store-requires c κs =
-    let s = c .before .before .before .before .before .before .before .before .before .before .before .before .before in
-    let a = s .args in
-    let pre = s .pre in
-    (place-inside (a .order) (a .file .now) (marked (a .marks .now)) (counted (c .before .before .before .before .before .before .before .read .result .list)) _ (pre .2) (pre .3) (c .before .before .place .ensures), pre .4)
+returns-2 c file new = rw (c .refused2 .ensures) (end-rest _ _ _ _ _ _ (c .before .before .before .before .before .read .ensures) (c .before .before .before .if1 .left) (c .before .if2 .taken))
 
 returns-3 : tie.Need-returns-3
-returns-3 c =
-    c .before .before .before .before .store .ensures ∙ end-store _ _ _ _ _ _ (c .before .before .before .before .before .before .before .before .before .before .before .before .read .ensures) (c .before .before .before .before .before .before .before .before .before .before .if1 .left) (c .before .before .before .before .before .before .before .before .if2 .left) _ (c .before .before .before .before .before .before .before .place .ensures)
+returns-3 c file new =
+    c .before .before .store .ensures file new ∙ end-store _ _ _ _ _ _ (c .before .before .before .before .before .before .before .before .before .read .ensures) (c .before .before .before .before .before .before .before .if1 .left) (c .before .before .before .before .before .if2 .left) _ (c .before .before .before .before .place .ensures)
 
 pub settle-spec : {M : Type 1} → statement M
 settle-spec =
@@ -36,7 +26,6 @@ settle-spec =
     (λ c. search needs)
     returns-2
     (λ c κs. search needs)
-    store-requires
-    (λ c. search needs)
+    (λ c κs. search needs)
     (λ c. search needs)
     returns-3)

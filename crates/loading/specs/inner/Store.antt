@@ -15,6 +15,7 @@ use Rattle.contract.specs.Contract.{contractRead}
 use Rattle.loading.specs.Place.{place}
 use Rattle.loading.specs.Loading.{Lent, Outcome, contractGot, blocking, loaded, bothOrNeither, newEntry, placed}
 use Rattle.loading.specs.declared.Order.{Order}
+use Rattle.loading.specs.declared.Loaded.{Loaded}
 
 -- The old list without the pointer's entry, and with the new one.
 abbrev pub renewed : Order → ContractList → ℕ → ContractList
@@ -25,6 +26,10 @@ unfoldable pub stored : Order → List ℕ → List ℕ → ContractList → Lis
 stored o list file old new pointer =
     pick (eqb pointer 0) (loaded (refusal 9 0) 0 list file)
     (bothOrNeither list file pointer (listWritten (o .n) (renewed o old pointer) list) (placed pointer new file))
+
+-- The contract file after an answer: the new record at its pointer's place, or nothing changed.
+abbrev pub fileAfter : Loaded → List ℕ → List ℕ → List ℕ
+fileAfter r new file = pick (eqb (r .refusal .number) 0) (placed (r .pointer) new file) file
 
 -- All but the contract list is read, in order: the pointers that are blocked, and the new contract under its type.
 unfoldable pub restRead : Order → Lent → Attempt (ℕ → Bool)
