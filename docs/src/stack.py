@@ -1,7 +1,11 @@
-"""How much stack a function of a program needs at most, with all functions under it, as its machine code says."""
+"""How much stack a function of a program needs at most, with all functions under it, as its machine code says.
+
+python3 docs/src/stack.py target/bin/bench loading::load     prints the frames along the deepest chain of calls
+"""
 
 import re
 import subprocess
+import sys
 from collections import namedtuple
 
 RETURN_ADDRESS = 8
@@ -52,15 +56,36 @@ def function(name, body):
     return Function(frame, calls, jumps - {name})
 
 
-def deepest(known, name, above=()):
-    """Bytes of stack, the return address included. What the C library's own functions take is not counted."""
+def chain(known, name, above=()):
+    """The deepest chain of calls from a function on: names and frames, the return addresses included. What the C library's own
+    functions take is not counted."""
     if name.endswith("@plt"):
-        return RETURN_ADDRESS
+        return [(name, RETURN_ADDRESS)]
     if name in above:
         raise Unknown(f"{name} calls itself")
     if name not in known:
         raise Unknown(name)
     above = (*above, name)
-    under = [deepest(known, callee, above) for callee in known[name].calls]
-    instead = [deepest(known, callee, above) for callee in known[name].jumps]      # its own frame is gone by then
-    return max([known[name].frame + max(under, default=0), *instead])
+    under = [chain(known, callee, above) for callee in known[name].calls]
+    instead = [chain(known, callee, above) for callee in known[name].jumps]      # its own frame is gone by then
+    return max([[(name, known[name].frame), *max(under, key=size, default=[])], *instead], key=size)
+
+
+def size(frames):
+    return sum(frame for _, frame in frames)
+
+
+def deepest(known, name):
+    return size(chain(known, name))
+
+
+def main(program, name):
+    """The frames along the deepest chain from a function of a program on, and their sum."""
+    frames = chain(functions(program), name)
+    for callee, frame in frames:
+        print(f"{frame:6} {callee}")
+    print(f"{size(frames):6}")
+
+
+if __name__ == "__main__":
+    main(*sys.argv[1:])
