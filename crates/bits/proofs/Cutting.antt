@@ -13,7 +13,7 @@ use lib.Seq.{drop-drop, drop-at, ext-getD, length-take-le, take-all, take-append
 use Rattle.bits.specs.Bits.{bit, odd, number, zeros, spread, cut, bitsOf}
 use Rattle.bits.specs.inner.Words.{numberAt}
 use Rattle.bits.proofs.Spelling.{length-bits-of, number-bits-of, bits-of-number}
-use Rattle.bits.proofs.Fronts.{front-padded, front-at, part, part-add, part-high, part-low, part-lt, part-part, part-past, part-pad, part-take}
+use Rattle.bits.proofs.Fronts.{front-padded, front-at, part, part-add, part-lt, part-part, part-past, part-pad, part-take}
 
 pub length-cut : (step w n : ℕ) (bs : List Bool) → length (cut step w n bs) ≡ n
 length-cut step w zero bs = refl
@@ -157,7 +157,3 @@ two-quads at mid bs e = omega (arith, rw e at (part-add 32 32 at bs), part-lt 32
 
 pub one-quad : (at mid : ℕ) (bs : List Bool) → at + 32 ≡ mid → length bs ≤ mid → part 32 at bs * 2 ^ 32 % 2 ^ 64 ≡ part 64 at bs
 one-quad at mid bs e h = omega (arith, two-quads at mid bs e, part-past 32 mid bs h)
-
--- A word half way between two that stand side by side.
-pub half-way : (at mid next : ℕ) (bs : List Bool) → at + 32 ≡ mid → mid + 32 ≡ next → part 64 at bs * 2 ^ 32 % 2 ^ 64 + part 64 next bs / 2 ^ 32 ≡ part 64 mid bs
-half-way at mid next bs e f = omega (arith, rw e at (part-low 32 32 at bs), rw f at (part-add 32 32 mid bs), part-high 32 32 next bs)

@@ -25,17 +25,19 @@ fn eight(bytes: &[u8], i: usize) -> u64
 }
 
 // The words of a record of 29 bytes, in a straight line. Word j holds the 64 bits from bit 32 × j on, zeros past the end: a
-// number of up to 32 bits that begins in a word's first 32 bits stands whole in it.
+// number of up to 32 bits that begins in a word's first 32 bits stands whole in it. Here and in the readers a slice is handed on as
+// `&bytes[..]`: of one handed on as it was lent the compiler keeps pointer and length in memory.
 pub fn words(bytes: &[u8], words: &mut [u64; 8])
     requires { ⌜ (length (now bytes) ≡ 29) × (length (now words) ≡ 8) ⌝ }
     ensures { λ r. ⌜ now (words .exit) ≡ cut 32 64 8 (spread 8 (now (bytes .entry))) ⌝ }
 {
-    words[0] = eight(bytes, 0);
-    words[1] = eight(bytes, 4);
-    words[2] = eight(bytes, 8);
-    words[3] = eight(bytes, 12);
-    words[4] = eight(bytes, 16);
-    words[5] = eight(bytes, 20);
+    let all = &bytes[..];
+    words[0] = eight(all, 0);
+    words[1] = eight(all, 4);
+    words[2] = eight(all, 8);
+    words[3] = eight(all, 12);
+    words[4] = eight(all, 16);
+    words[5] = eight(all, 20);
     let last = four(bytes[28], 0, 0, 0);
     words[6] = (four(bytes[24], bytes[25], bytes[26], bytes[27]) << 32) + last;
     words[7] = last << 32;
@@ -90,21 +92,6 @@ pub fn is_one(bytes: &[u8], at: u32) -> bool
 {
     let byte = byte(bytes, at as usize / 8);
     (byte >> (7 - at % 8)) % 2 == 1
-}
-
-// The bits of whole words, 64 each, in words that begin 32 bits apart, and one more word behind them.
-pub fn words_of(whole: &[u64], words: &mut [u64])
-    requires { ⌜ length (now words) ≡ 2 * length (now whole) + 1 ⌝ }
-    ensures { λ r. ⌜ now (words .exit) ≡ cut 32 64 (length (now (words .entry))) (spread 64 (now (whole .entry))) ⌝ }
-{
-    let mut k = 0;
-    while k < whole.len() {
-        let next = if k + 1 < whole.len() { whole[k + 1] } else { 0 };
-        words[2 * k] = whole[k];
-        words[2 * k + 1] = (whole[k] << 32) + (next >> 32);
-        k += 1;
-    }
-    words[2 * k] = 0;
 }
 
 // A word that begins with bit start of some bits, with zeros before bit at.
@@ -186,6 +173,22 @@ fn next_in_words(words: &[u64], end: u32, from: u32) -> u32
     end
 }
 
+// The place of the first one from a bit on, in words of 64 bits each, or their end.
+pub fn first_one(whole: &[u64], from: u32) -> u32
+    requires { ⌜ (from ≤ 64 * length (now whole)) × (length (now whole) < 1024) ⌝ }
+    ensures { λ r. ⌜ r ≡ from + leading (drop from (spread 64 (now (whole .entry)))) ⌝ }
+{
+    let mut at = from;
+    while at < 64 * whole.len() as u32 {
+        let ahead = whole[(at / 64) as usize] << (at % 64);
+        if ahead != 0 {
+            return at + u64::leading_zeros(ahead);
+        }
+        at = (at / 64 + 1) * 64;
+    }
+    at
+}
+
 // Lays the w bits of v behind the bits of a draft, words of 32 bits that are zeros from bit at on.
 pub fn lay(draft: &mut [u64], at: u32, w: u32, v: u32)
     requires { ⌜ (at / 32 + 1 < length (now draft)) × ((w ≤ 32) × (v < 2 ^ w)) ⌝ }
@@ -196,6 +199,20 @@ pub fn lay(draft: &mut [u64], at: u32, w: u32, v: u32)
     let x = 2 * ((v as u64) << (63 - at % 32 - w));
     draft[j] = draft[j] | (x >> 32);
     draft[j + 1] = x % 4294967296;
+}
+
+// Lays the bits of whole words, 64 each, behind the bits of a draft, up to whose end they are zeros.
+pub fn lay_words(draft: &mut [u64], whole: &[u64])
+    requires { ⌜ 2 * length (now whole) ≤ length (now draft) ⌝ }
+    ensures { λ r. ⌜ ((out : List Bool) → length out ≤ leading (spread 64 (now (whole .entry))) → now (draft .entry) ≡ cut 32 32 (length (now (draft .entry))) out
+        → now (draft .exit) ≡ cut 32 32 (length (now (draft .entry))) (out ++ drop (length out) (spread 64 (now (whole .entry))))) ⌝ }
+{
+    let mut k = 0;
+    while k < whole.len() {
+        draft[2 * k] = draft[2 * k] | (whole[k] >> 32);
+        draft[2 * k + 1] = draft[2 * k + 1] | (whole[k] % 4294967296);
+        k += 1;
+    }
 }
 
 // The bytes of a draft: four of each word, then those that are left.

@@ -204,7 +204,7 @@ pub fn read(bytes: &[u8], kind: u32) -> ContractRead
         return ContractRead::Refused(Refusal::UNKNOWN_TYPE);
     }
     let mut words = [0u64; 8];
-    bits::words(bytes, &mut words);
+    bits::words(&bytes[..], &mut words);
     let fields = take_head(&words);
     let head = fields.value;
     let last = fields.last;

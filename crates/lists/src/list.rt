@@ -224,7 +224,7 @@ pub fn read(bytes: &[u8], n: u32) -> ListRead
         return refused(Refusal::OUTSIDE_LIMITS);
     }
     let mut words = [0u64; 8];
-    bits::words(bytes, &mut words);
+    bits::words(&bytes[..], &mut words);
     let head = take::at_most(&words, BITS, Cursor::START, When::Always, COUNT_BITS, n);
     if head.why != 0 {
         return refused(Refusal::met(head));

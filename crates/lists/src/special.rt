@@ -84,7 +84,7 @@ pub fn read(bytes: &[u8], s: u32) -> SpecialRead
         return refused(Refusal::OUTSIDE_LIMITS);
     }
     let mut words = [0u64; 8];
-    bits::words(bytes, &mut words);
+    bits::words(&bytes[..], &mut words);
     let taken = take_list(&words);
     let list = taken.list;
     let end = take::end(&words, BITS, taken.last);

@@ -48,7 +48,7 @@ pub fn read(bytes: &[u8]) -> EnvironmentRead
         return EnvironmentRead::Refused(Refusal::WRONG_LENGTH);
     }
     let mut words = [0u64; 8];
-    bits::words(bytes, &mut words);
+    bits::words(&bytes[..], &mut words);
     let fields = take_fields(&words);
     let last = fields.last;
     if last.why != 0 {

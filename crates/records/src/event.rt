@@ -121,7 +121,7 @@ pub fn read(bytes: &[u8]) -> EventRead
         return EventRead::Refused(Refusal::WRONG_LENGTH);
     }
     let mut words = [0u64; 8];
-    bits::words(bytes, &mut words);
+    bits::words(&bytes[..], &mut words);
     let fields = take_fields(&words);
     let last = fields.last;
     if last.why != 0 {

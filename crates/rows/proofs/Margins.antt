@@ -1,19 +1,17 @@
 -- What shows that a margin is taken and put as it is meant.
-use Prim.Native.Nat.{ℕ, zero, suc, _+_, _-_, _*_, _/_, _^_, _≤_, _<_}
+use Prim.Native.Nat.{ℕ, zero, suc, _+_, _-_, _*_, _^_, _≤_, _<_}
 use mathlib.Core.List.{List, [], _∷_, _++_, append-assoc}
 use mathlib.Core.Bool.{Bool, true, false, true≢false, _&&_, _||_}
 use mathlib.Core.Path.{_≡_, refl, sym, ap, _∙_}
 use native.Mathlib.Omega.{arith}
 use lib.Dec.{eqb, leb, ltb}
-use lib.ListN.{length, take, drop, getD, replicate, length-append, length-drop, length-replicate, getD-replicate, replicate-append-replicate, List·getD-append}
-use lib.Seq.{take-add, take-length, length-take-le, drop-drop, getD-append-add, getD-take, getD-drop}
+use lib.ListN.{length, take, drop, getD, replicate, length-append, length-drop, length-replicate, getD-replicate, replicate-append-replicate, take-append-drop, List·getD-append}
+use lib.Seq.{take-length, length-take-le, drop-drop, getD-append-add, getD-take, getD-drop}
 use borrow.Author.Tests.{eqb-true, ltb-true, ltb-false, leb-true, leb-false, eq-eqb, ne-eqb}
-use Rattle.bits.specs.Bits.{number, bitsOf, spread, zeros, cut, cleared, leading}
-use Rattle.bits.specs.inner.Words.{numberAt}
-use Rattle.bits.proofs.Spelling.{bits-of-number}
+use Rattle.bits.specs.Bits.{number, spread, zeros, cut, cleared, leading}
 use Rattle.bits.proofs.Fronts.{part-padded, part-pad, part-past}
-use Rattle.bits.proofs.Cutting.{length-cut, length-spread, cut-at, cut-pad, is-cut, number-at}
-use Rattle.bits.proofs.Clearing.{leading-zeros, leading-append-zeros, leading-front-one, take-zeros, drop-zeros, all-lead, lead-all}
+use Rattle.bits.proofs.Cutting.{length-spread, cut-at, cut-pad, is-cut}
+use Rattle.bits.proofs.Clearing.{leading-zeros, leading-append-zeros, leading-front-one, drop-zeros, all-lead, lead-all}
 use Rattle.rows.specs.Row.{pick}
 use Rattle.rows.specs.Walk.{refused, blank, stray}
 use Rattle.rows.specs.inner.Step.{Kept}
@@ -93,10 +91,6 @@ none-of a b c d p q r s =
     each (λ x. x ≡ 0) a b c d (eqb-true a 0 first) (eqb-true b 0 second) (eqb-true c 0 third) (eqb-true d 0 last) refl)
     (λ z. rw (eq-eqb a 0 (z 0), eq-eqb b 0 (z 1), eq-eqb c 0 (z 2), eq-eqb d 0 (z 3)))
 
--- A cut, by its own length.
-pub own-cut : (step w n : ℕ) (xs : List ℕ) (bs : List Bool) → xs ≡ cut step w n bs → xs ≡ cut step w (length xs) bs
-own-cut step w n xs bs e = e ∙ ap (λ (k : ℕ). cut step w k bs) (sym (ap length e ∙ length-cut step w n bs))
-
 -- A bit is stray exactly if it is one in the margin, and in a field's place or past the room.
 pub stray-at : (room end : ℕ) (m : List Bool) (i : ℕ) → end ≤ room → room ≤ length m
     → getD (stray room end m) i false ≡ pick (ltb i end || leb room i) (getD m i false) false
@@ -161,21 +155,33 @@ blank-first n bs a end first is h = rw (is, ne-eqb first (length bs) (λ e. omeg
 abbrev pub away : ℕ → Cursor
 away place = record { at = place; why = 7; field = 0; number = 0 }
 
+-- With no one past the room the bits up to it are all that counts.
+no-tail : (n room at : ℕ) (out m : List Bool) → at ≤ room → length m ≤ room + leading (drop room m)
+    → cut 32 32 n (out ++ drop at m) ≡ cut 32 32 n (out ++ take (room - at) (drop at m))
+no-tail n room at out m inside none =
+    let k : ℕ = length (drop room m) in
+    let kept : List Bool = take (room - at) (drop at m) in
+    let up : at + (room - at) ≡ room = omega arith in
+    let rest : drop (room - at) (drop at m) ≡ zeros k = rw (drop-drop, up) (none-leading (drop room m) (rw length-drop (omega arith))) in
+    let split : kept ++ zeros k ≡ drop at m = rw rest at (take-append-drop (room - at) (drop at m)) in
+    ap (λ (l : List Bool). cut 32 32 n (out ++ l)) (sym split) ∙ rw (← append-assoc) (cut-pad 32 32 n k (out ++ kept))
+
 -- A margin is put where no one is out of place,
 pub kept : (xs ys : List ℕ) (room : ℕ) (c : Cursor) (m : List Bool) (first past : ℕ)
     → length ys ≡ length xs
     → c .why ≡ 0
+    → c .at ≤ room
     → first ≡ 0 + leading m
     → c .at ≤ first
     → past ≡ room + leading (drop room m)
     → length m ≤ past
-    → ((out : List Bool) → length out ≡ c .at → xs ≡ cut 32 32 (length xs) out → ys ≡ cut 32 32 (length xs) (out ++ take (room - c .at) (drop (c .at) m)))
+    → ((out : List Bool) → length out ≤ leading m → xs ≡ cut 32 32 (length xs) out → ys ≡ cut 32 32 (length xs) (out ++ drop (length out) m))
     → Kept xs ys room c m c
-kept xs ys room c m first past long clear is inside is′ none laid =
+kept xs ys room c m first past long clear inside is after is′ none laid =
     record {
       long = long;
       says = λ bits. rw (eq-eqb (c .why) 0 clear, stray-none room (c .at) m (omega arith) (omega arith)) (blank-zeros 7 (c .at + (room - c .at + (length m - room))) bits (c .at));
-      laid = λ ok. laid;
+      laid = λ ok out at drafted. rw at at (laid out (omega arith) drafted) ∙ no-tail (length xs) room (c .at) out m inside (omega arith);
     }
 
 -- as where it has none,
@@ -187,12 +193,10 @@ kept-none xs room c ws clear inside fits none =
     let n : ℕ = length m in
     let long : length m ≡ 64 * length ws = length-spread 64 ws in
     let zero : m ≡ zeros n = none-leading m (omega arith) in
-    let past : drop room m ≡ zeros (n - room) = ap (drop room) zero ∙ drop-zeros room n in
-    let behind : drop (c .at) m ≡ zeros (n - c .at) = ap (drop (c .at)) zero ∙ drop-zeros (c .at) n in
-    let rest : take (room - c .at) (drop (c .at) m) ≡ zeros (room - c .at) = ap (take (room - c .at)) behind ∙ take-zeros (room - c .at) (n - c .at) (omega arith) in
-    kept xs xs room c m (leading m) (room + leading (drop room m)) refl clear (omega arith) (omega arith) refl
-    (rw (past, leading-zeros) (omega arith))
-    (λ out at drafted. rw (rest, cut-pad 32 32 (length xs) (room - c .at) out) drafted)
+    let behind : (k : ℕ) → drop k m ≡ zeros (n - k) = λ k. ap (drop k) zero ∙ drop-zeros k n in
+    kept xs xs room c m (leading m) (room + leading (drop room m)) refl clear inside (omega arith) (omega arith) refl
+    (rw (behind room, leading-zeros) (omega arith))
+    (λ out before drafted. rw (behind (length out), cut-pad 32 32 (length xs) (n - length out) out) drafted)
 
 -- and not where one is in a field's place or past the room.
 pub kept-first : (xs : List ℕ) (room : ℕ) (c : Cursor) (m : List Bool) (first : ℕ) → c .at ≤ room → room ≤ length m
@@ -218,35 +222,3 @@ kept-past xs room c m first past inside long is h is′ l =
       says = λ bits. blank-first 7 (stray room (c .at) m) bits (c .at) past (stray-past room (c .at) m inside (omega arith) ∙ sym is′) (rw (length-stray room (c .at) m inside long) l);
       laid = λ ok. absurd (omega arith);
     }
-
--- The bits of a margin from bit at up to a place, laid behind those of a draft, and the next w of them.
-abbrev pub LaidTo : List ℕ → List ℕ → List ℕ → ℕ → ℕ → ℕ → Type 0
-LaidTo xs ys words at room place =
-    (out m : List Bool)
-    → length out ≡ at
-    → xs ≡ cut 32 32 (length xs) out
-    → words ≡ cut 32 64 (length words) m
-    → room ≤ length m
-    → ys ≡ cut 32 32 (length xs) (out ++ take (place - at) (drop at m))
-
-pub lay-more : (xs ys zs words : List ℕ) (at room place w v : ℕ)
-    → at ≤ place
-    → place + w ≤ room
-    → w ≤ 32
-    → room / 32 < length words
-    → length ys ≡ length xs
-    → v ≡ numberAt words place w
-    → LaidTo xs ys words at room place
-    → ((out : List Bool) → length out ≡ place → ys ≡ cut 32 32 (length ys) out → zs ≡ cut 32 32 (length ys) (out ++ bitsOf w v))
-    → LaidTo xs zs words at room (place + w)
-lay-more xs ys zs words at room place w v from to narrow covered long is so lay = λ out m start drafted held whole.
-    let left : length (drop at m) ≡ length m - at = length-drop at m in
-    let left′ : length (drop place m) ≡ length m - place = length-drop place m in
-    let sofar : List Bool = out ++ take (place - at) (drop at m) in
-    let reached : length sofar ≡ place = rw (length-append, length-take-le (place - at) (drop at m) (omega arith)) (omega arith) in
-    let up : at + (place - at) ≡ place = omega arith in
-    let next : place + w - at ≡ place - at + w = omega arith in
-    let value : v ≡ number (take w (drop place m)) = is ∙ ap (λ (l : List ℕ). numberAt l place w) held ∙ number-at (length words) m place w (omega arith) narrow (omega arith) in
-    let bits : bitsOf w v ≡ take w (drop place m) = ap (bitsOf w) value ∙ rw (length-take-le w (drop place m) (omega arith)) at (bits-of-number (take w (drop place m))) in
-    rw (next, take-add (place - at) w (drop at m), drop-drop, up, ← append-assoc, ← bits, ← long)
-    (lay sofar reached (rw long (so out m start drafted held whole)))

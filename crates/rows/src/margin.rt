@@ -1,10 +1,10 @@
 // The margin: the bits after the last field, in the record's own coordinates, with zeros in every field's place.
 ghost use mathlib.Core.Path.{_≡_};
 ghost use mathlib.Core.Bool.{Bool};
-ghost use mathlib.Core.List.{List, _++_};
-ghost use Prim.Native.Nat.{_+_, _*_, _-_, _/_, _≤_, _<_};
+ghost use mathlib.Core.List.{List};
+ghost use Prim.Native.Nat.{_*_, _/_, _≤_, _<_};
 ghost use lib.Dec.{eqb};
-ghost use lib.ListN.{length, take, drop, replicate};
+ghost use lib.ListN.{length, replicate};
 ghost use Rattle.bits.specs.Bits.{spread, cut, cleared, leading};
 ghost use Rattle.rows.specs.Margin.{wordsOf};
 ghost use Rattle.rows.specs.inner.Step.{Drafted, Kept};
@@ -61,46 +61,42 @@ pub fn take_area(words: &[u64], end: u32, at: u32, margin: &mut [u64])
 
 // Puts the margin of a record behind its last field.
 pub fn put(draft: &mut [u64], room: u32, c: Cursor, margin: Margin) -> Cursor
-    requires { ⌜ Drafted (now draft) room c × ((c .why ≡ 0) × (room ≤ 256)) ⌝ }
+    requires { ⌜ Drafted (now draft) room c × ((c .why ≡ 0) × ((room ≤ 256) × (8 ≤ length (now draft)))) ⌝ }
     ensures { λ d. ⌜ Kept (now (draft .entry)) (now (draft .exit)) room c (spread 64 (wordsOf margin)) d ⌝ }
 {
     if margin.is_none() {
         return c;
     }
     let whole = [margin.at0, margin.at64, margin.at128, margin.at192];
-    let mut words = [0u64; 9];
-    put_words(draft, room, c, &whole, &mut words)
+    put_words(draft, room, c, &whole)
 }
 
 // Puts the margin of an area behind its last field.
 pub fn put_area(draft: &mut [u64], room: u32, c: Cursor, whole: &[u64]) -> Cursor
-    requires { ⌜ Drafted (now draft) room c × ((c .why ≡ 0) × ((room ≤ 960) × (length (now whole) ≡ 15))) ⌝ }
+    requires { ⌜ Drafted (now draft) room c × ((c .why ≡ 0) × ((room ≤ 960) × ((length (now whole) ≡ 15) × (30 ≤ length (now draft))))) ⌝ }
     ensures { λ d. ⌜ Kept (now (draft .entry)) (now (draft .exit)) room c (spread 64 (now (whole .entry))) d ⌝ }
 {
     if bits::all_zero(whole) {
         return c;
     }
-    let mut words = [0u64; 31];
-    put_words(draft, room, c, whole, &mut words)
+    put_words(draft, room, c, whole)
 }
 
-// Puts the bits of whole words behind the last field: 7 at the first one that is in a field's place or past the room. The lent words are
-// for the same bits, 32 bits apart: two for each whole word, and one more.
-fn put_words(draft: &mut [u64], room: u32, c: Cursor, whole: &[u64], words: &mut [u64]) -> Cursor
-    requires { ⌜ Drafted (now draft) room c × ((c .why ≡ 0) × ((room ≤ 64 * length (now whole)) × ((length (now whole) < 1024) × (length (now words) ≡ 2 * length (now whole) + 1)))) ⌝ }
+// Puts the bits of whole words behind the last field: 7 at the first one that is in a field's place or past the room.
+fn put_words(draft: &mut [u64], room: u32, c: Cursor, whole: &[u64]) -> Cursor
+    requires { ⌜ Drafted (now draft) room c × ((c .why ≡ 0) × ((room ≤ 64 * length (now whole)) × ((length (now whole) < 1024) × (2 * length (now whole) ≤ length (now draft))))) ⌝ }
     ensures { λ d. ⌜ Kept (now (draft .entry)) (now (draft .exit)) room c (spread 64 (now (whole .entry))) d ⌝ }
 {
-    bits::words_of(whole, words);
-    let end = 64 * whole.len() as u32;
-    let first = bits::next_one(words, end, 0);
+    let first = bits::first_one(whole, 0);
     if first < c.at {
         return astray(first);
     }
-    let past = bits::next_one(words, end, room);
+    let end = 64 * whole.len() as u32;
+    let past = bits::first_one(whole, room);
     if past < end {
         return astray(past);
     }
-    lay(draft, words, c.at, room);
+    bits::lay_words(draft, whole);
     c
 }
 
@@ -113,20 +109,5 @@ fn astray(place: u32) -> Cursor
         why: 7,
         field: 0,
         number: 0,
-    }
-}
-
-// Lays the bits from bit at up to the room behind those of a draft, 32 at a time.
-fn lay(draft: &mut [u64], words: &[u64], at: u32, room: u32)
-    requires { ⌜ (at ≤ room) × ((room / 32 + 1 < length (now draft)) × ((room / 32 < length (now words)) × (room < 65536))) ⌝ }
-    ensures { λ r. ⌜ ((out m : List Bool) → length out ≡ at → now (draft .entry) ≡ cut 32 32 (length (now (draft .entry))) out
-        → now (words .entry) ≡ cut 32 64 (length (now (words .entry))) m → room ≤ length m
-        → now (draft .exit) ≡ cut 32 32 (length (now (draft .entry))) (out ++ take (room - at) (drop at m))) ⌝ }
-{
-    let mut place = at;
-    while place < room {
-        let w = if room - place < 32 { room - place } else { 32 };
-        bits::lay(draft, place, w, bits::number(words, place, w));
-        place += w;
     }
 }

@@ -17,7 +17,9 @@ unfolding holder
 returns c = rw (c .met .ensures) (area-unput holder _ _ _ _ _ _ _ (omega (arith, holder-rows)) refl refl (c .before .before .before .before .before .before .before .pre) (c .before .before .before .before .put-fields .ensures .puts) (c .before .if1 .taken))
 
 put-area-requires : tie.Need-put-area-requires
-put-area-requires c κs = (c .before .before .before .before .before .before .put-fields .ensures .ready, (c .before .before .before .if1 .left, (omega (arith, area-room _ (c .before .before .before .before .before .before .before .before .before .pre)), fifteen (c .before .before .before .before .before .before .before .before .before))))
+put-area-requires c κs =
+    let long : length (c .before .before .before .before .before .before .put-fields .last .0) ≡ 31 = search needs in
+    (c .before .before .before .before .before .before .put-fields .ensures .ready, (c .before .before .before .if1 .left, (omega (arith, area-room _ (c .before .before .before .before .before .before .before .before .before .pre)), (fifteen (c .before .before .before .before .before .before .before .before .before), omega arith))))
 
 end-requires : tie.Need-end-requires
 end-requires c κs =

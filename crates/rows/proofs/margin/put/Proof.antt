@@ -10,7 +10,7 @@ use Rattle.rows.proofs.margin.put.Tie as tie
 returns : tie.Need-returns
 returns c =
     let s = c .before .before .before in
-    kept-none (s .args .draft .now) (s .args .room) (s .args .c) (wordsOf (s .args .margin)) (s .pre .1 .0) (s .pre .0 .within) (s .pre .1 .1)
+    kept-none (s .args .draft .now) (s .args .room) (s .args .c) (wordsOf (s .args .margin)) (s .pre .1 .0) (s .pre .0 .within) (s .pre .1 .1 .0)
     (eqb-true _ _ (sym (c .before .is-none .ensures) ∙ c .if1 .taken))
 
 pub put-spec : {M : Type 1} → statement M
@@ -19,7 +19,6 @@ put-spec =
     (tie.spec
     (λ c κs. search needs)
     returns
-    (λ c. search needs)
     (λ c. search needs)
     (λ c κs. search needs)
     (λ c. search needs)

@@ -14,4 +14,4 @@ returns c =
     (eqb-true _ _ (sym (c .before .all-zero .ensures) ∙ c .if1 .taken))
 
 pub put-area-spec : {M : Type 1} → statement M
-put-area-spec = tie.close (tie.spec (λ c κs. search needs) returns (λ c. search needs) (λ c κs. search needs) (λ c. search needs) (λ c. search needs))
+put-area-spec = tie.close (tie.spec (λ c κs. search needs) returns (λ c κs. search needs) (λ c. search needs) (λ c. search needs))
