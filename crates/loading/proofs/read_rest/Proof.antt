@@ -1,4 +1,4 @@
-use mathlib.Core.Path.{_≡_, sym, _∙_}
+use mathlib.Core.Path.{sym, _∙_}
 use Rattle.contract.proofs.Telling.{contract-one}
 use borrow.Author.Needs.{needs}
 use Rattle.loading.specs.Loading.{Lent}
