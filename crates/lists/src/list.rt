@@ -157,7 +157,8 @@ impl ContractList {
         self
     }
 
-    // The list without any entry of a pointer: the later entries move down, and zeros follow.
+    // The list without any entry of a pointer: the later entries move down, and zeros follow. Both loops stand here, since for a
+    // method between them the compiler would copy the list.
     pub fn without(mut self, pointer: u32) -> ContractList
         ensures { λ r. ⌜ r ≡ listing (without pointer (counted self)) ⌝ }
     {

@@ -70,7 +70,7 @@ room-for n l blocked p kept named other =
     pointers = map (λ (e : Entry). e .pointer) (counted l)
 
 -- The pointer's place is in the contract file.
-pub place-inside : (o : Order) (file : List ℕ) (blocked : ℕ → Bool) (es : List Entry) (p : ℕ) → o .c ≤ o .n → length file ≡ 29 * o .n
+place-inside : (o : Order) (file : List ℕ) (blocked : ℕ → Bool) (es : List Entry) (p : ℕ) → o .c ≤ o .n → length file ≡ 29 * o .n
     → p ≡ place blocked (o .n) (o .c) (o .counter) es → 29 * p ≤ length file
 place-inside o file blocked es p counters long named =
     let most : p ≤ o .n = rw (← named) at (placed-free-or-erasable blocked (o .n) (o .c) (o .counter) es counters .most) in

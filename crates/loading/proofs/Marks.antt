@@ -21,13 +21,13 @@ use Rattle.records.specs.declared.event.EventRead.{EventRead}
 use Rattle.records.specs.declared.event.EventRead.the-variants.{Read, Refused}
 use Rattle.contract.specs.Contract.{contractRead}
 use Rattle.contract.specs.declared.Contract.{Contract}
-use Rattle.contract.specs.declared.ContractRead.the-variants as contracts
+use Rattle.contract.specs.declared.ContractRead.{ContractRead}
 use Rattle.lists.specs.Special.{specialRead}
 use Rattle.lists.specs.declared.special.SpecialRead.{SpecialRead}
 use Rattle.loading.specs.Blocking.{some, moment, blocks, namedBySpecial, blocked}
 use Rattle.loading.specs.Loading.{Lent, contractGot, blocking}
 use Rattle.loading.specs.declared.Order.{Order}
-use Rattle.loading.specs.inner.Marks.{marked, Added, Marking}
+use Rattle.loading.specs.inner.Marks.{marked, refusalOf, Added, Marking}
 use Rattle.loading.specs.inner.Store.{restRead}
 use Rattle.loading.proofs.Told.{Stops, events-stop, blocking-stops}
 
@@ -204,25 +204,14 @@ module _ (o : Order) (lent : Lent) {before after : List Bool} {x : Refusal}
       go (got b) k = absurd (bad (ap (λ (t : Refusal). t .number) (k .answer)))
       go (stopped t) k = record { answer = k .answer; long = k .long; marks = λ b same. absurd (apart same) }
 
-  module _ (quiet : x .number ≡ 0) where
-    -- They are read, and the new contract is refused.
-    pub rest-refused : (y : Refusal) → contractRead (o .kind) (lent .new) ≡ contracts.Refused y → Marking (restRead o lent) (λ b. b) before after y
-    unfolding restRead
-    rest-refused y e =
-        rw e (go (blocking o (lent .special) (lent .journal) (lent .records) (lent .codes)) (blocking-stops o (lent .special) (lent .journal) (lent .records) (lent .codes)) m)
-      where
-        go : (t : Attempt (ℕ → Bool)) → Stops t → Marking t (λ b. b) before after x
-            → Marking {A = ℕ → Bool} (next t (λ b. stopped y)) (λ b. b) before after y
-        go (got b) told k = record { answer = refl; long = k .long; marks = λ b same. absurd (apart same) }
-        go (stopped t) told k = absurd (told .some (sym (ap (λ (r : Refusal). r .number) (k .answer)) ∙ quiet))
-
-    -- All is read.
-    pub rest-read : (c : Contract) → contractRead (o .kind) (lent .new) ≡ contracts.Read c → Marking (restRead o lent) (λ b. b) before after (refusal 0 0)
-    unfolding restRead
-    rest-read c e =
-        rw e (go (blocking o (lent .special) (lent .journal) (lent .records) (lent .codes)) (blocking-stops o (lent .special) (lent .journal) (lent .records) (lent .codes)) m)
-      where
-        go : (t : Attempt (ℕ → Bool)) → Stops t → Marking t (λ b. b) before after x
-            → Marking (next t (λ b. got b)) (λ b. b) before after (refusal 0 0)
-        go (got b) told k = record { answer = refl; long = k .long; marks = k .marks }
-        go (stopped t) told k = absurd (told .some (sym (ap (λ (r : Refusal). r .number) (k .answer)) ∙ quiet))
+  -- They are read, and the new contract decides.
+  pub rest-read : x .number ≡ 0 → {r : ContractRead} → contractRead (o .kind) (lent .new) ≡ r → Marking (restRead o lent) (λ b. b) before after (refusalOf (contractGot r))
+  unfolding restRead
+  rest-read quiet {r} e =
+      rw e (go (blocking o (lent .special) (lent .journal) (lent .records) (lent .codes)) (blocking-stops o (lent .special) (lent .journal) (lent .records) (lent .codes)) m (contractGot r))
+    where
+      go : (t : Attempt (ℕ → Bool)) → Stops t → Marking t (λ b. b) before after x → (u : Attempt Contract)
+          → Marking (next t (λ b. next u (λ new. got b))) (λ b. b) before after (refusalOf u)
+      go (got b) told k (got c) = record { answer = refl; long = k .long; marks = k .marks }
+      go (got b) told k (stopped y) = record { answer = refl; long = k .long; marks = λ b same. absurd (apart same) }
+      go (stopped t) told k u = absurd (told .some (sym (ap (λ (r : Refusal). r .number) (k .answer)) ∙ quiet))

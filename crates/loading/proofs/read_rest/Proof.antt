@@ -2,7 +2,7 @@ use mathlib.Core.Path.{sym, _∙_}
 use Rattle.contract.proofs.Telling.{contract-one}
 use borrow.Author.Needs.{needs}
 use Rattle.loading.specs.Loading.{Lent}
-use Rattle.loading.proofs.Marks.{rest-unread, rest-refused, rest-read}
+use Rattle.loading.proofs.Marks.{rest-unread, rest-read}
 use Rattle.loading.proofs.read_rest.Statement.{statement}
 use Rattle.loading.proofs.read_rest.Tie as tie
 
@@ -25,12 +25,12 @@ returns c =
 returns-2 : tie.Need-returns-2
 returns-2 c =
     let s = c .before .before .before .before .before .before .before .before .before .before .before .before .before .before .before in
-    rest-read (s .args .order) (lentOf s) (c .before .before .before .before .before .before .before .mark-all .ensures) (c .before .before .before .if1 .left) _ (sym (contract-one _ _ (c .before .before .read .ensures)) ∙ c .enum-told .given .1)
+    rest-read (s .args .order) (lentOf s) (c .before .before .before .before .before .before .before .mark-all .ensures) (c .before .before .before .if1 .left) (sym (contract-one _ _ (c .before .before .read .ensures)) ∙ c .enum-told .given .1)
 
 returns-3 : tie.Need-returns-3
 returns-3 c =
     let s = c .before .before .before .before .before .before .before .before .before .before .before .before .before .before .before .before in
-    rest-refused (s .args .order) (lentOf s) (c .before .before .before .before .before .before .before .before .mark-all .ensures) (c .before .before .before .before .if1 .left) _ (sym (contract-one _ _ (c .before .before .before .read .ensures)) ∙ c .before .refusal .given .1)
+    rest-read (s .args .order) (lentOf s) (c .before .before .before .before .before .before .before .before .mark-all .ensures) (c .before .before .before .before .if1 .left) (sym (contract-one _ _ (c .before .before .before .read .ensures)) ∙ c .before .refusal .given .1)
 
 pub read-rest-spec : {M : Type 1} → statement M
 read-rest-spec =
