@@ -2,7 +2,8 @@
 
 from random import Random
 
-from draw import EVENT, contract, draw, drawn_record, flipped, noise, record, special_entries, special_list
+from draw import (EVENT, contract, counters_for, draw, drawn_record, flipped, noise, own_counters, record,
+                  special_entries, special_list)
 
 LARGEST = 4294967295
 WRAPPING = ((148102321, 13), (296204642, 26))      # N and 29 x N modulo 2^32
@@ -114,13 +115,13 @@ P2_LIST = "3C020C1C42122C40BE3" + "0" * 39
 
 
 def papers_samples(random):
-    yield f"list.read {ZEROS} 4"
-    yield f"list.read {P2_LIST} 4"
+    yield f"list.read {ZEROS} 4 4"
+    yield f"list.read {P2_LIST} 4 4"
     yield load_line(contract_list=P2_LIST, counters=4, key=2, priority=6)
     for needs_counter in (0, 1):
         yield p4_line((1, 2, 5, 3, 6, 7, 8, 4), range(4, 9), needs_counter)
     yield p4_line((1, 2, 7, 3, 5, 6, 8, 4), range(5, 9), 0)
-    yield "list.read 1C021A1" + "0" * 51 + " 4"
+    yield "list.read 1C021A1" + "0" * 51 + " 4 4"
     for groups in (0xD843, 0x810D, 0x0030):
         drawing = draw(random, contract(80), {"bitmap": 0b1100011, "groups": groups, "margin": ""})
         yield f"contract.read {record(drawing.bits)} 80"
@@ -129,7 +130,7 @@ def papers_samples(random):
     yield f"event.read {record(bits((0, 25), (1 << 17, 28)))}"
     yield f"event.read {event(0, 1439, code=None)}"
     yield f"event.read {event(0, 1440, code=None)}"
-    yield f"list.read {flipped(ZEROS, 231)} 4"
+    yield f"list.read {flipped(ZEROS, 231)} 4 4"
     for wanted in ("07", "06"):
         rest = noise(random, 28)
         yield f"find 05{rest} {wanted}{rest} {noise(random)}"
@@ -152,8 +153,11 @@ def p13_lines(minute):
 
 # ---------------------------------------------------------------- Selection
 
-def select_line(entries, records, day, operator):
-    return f"select {listing(*entries)} {''.join(records)} {len(records)} {day} {operator}"
+def select_line(entries, records, day, operator, counters=None):
+    """Where C is not given it is any that the card can have."""
+    lent, positions = listing(*entries), len(records)
+    counters = own_counters(positions, lent) if counters is None else counters
+    return f"select {lent} {''.join(records)} {positions} {counters} {day} {operator}"
 
 
 def selection(random):
@@ -255,24 +259,25 @@ def any_selection(random):
 def refused_selection(random):
     good, file = listing((0, 66, 3, 1)), good_contract(random, 66) * 4
     for size in (0, 1, 28, 30, 58):
-        yield f"select {noise(random, size)} {file} 4 100 5"
+        yield f"select {noise(random, size)} {file} 4 2 100 5"
     for size in (0, 1, 28, 30, 58, 87, 115, 117, 145):
-        yield f"select {good} {noise(random, size)} 4 100 5"
+        yield f"select {good} {noise(random, size)} 4 4 100 5"
     for positions in (0, 1, 3, 5, 8, 9, 15, 100, LARGEST):
-        yield f"select {good} {file} {positions} 100 5"
+        yield f"select {good} {file} {positions} {min(positions, 4)} 100 5"
     for positions in (0, 9, 15, 16, 60):
-        yield f"select {good} {noise(random, 29 * positions)} {positions} 100 5"
+        yield f"select {good} {noise(random, 29 * positions)} {positions} 0 100 5"
     for positions, size in WRAPPING:
-        yield f"select {good} {noise(random, size)} {positions} 100 5"
+        yield f"select {good} {noise(random, size)} {positions} 4 100 5"
     for day in (0, 16383, 16384, 65536, LARGEST):
-        yield f"select {good} {file} 4 {day} 5"
+        yield f"select {good} {file} 4 {counters_for(4, day)} {day} 5"
     for operator in (0, 254, 255, 256, 257, 65536, LARGEST):
-        yield f"select {good} {file} 4 100 {operator}"
-    for broken in broken_lists():
-        yield f"select {broken} {file} 4 100 5"
-        yield f"select {broken} {file} 4 16384 5"
-        yield f"select {broken} {file[2:]} 4 16384 5"
-    yield f"select {overfull_list()} {file * 2} 8 100 5"
+        yield f"select {good} {file} 4 {counters_for(4, operator)} 100 {operator}"
+    for index, broken in enumerate(broken_lists()):
+        counters = counters_for(4, index)
+        yield f"select {broken} {file} 4 {counters} 100 5"
+        yield f"select {broken} {file} 4 {counters} 16384 5"
+        yield f"select {broken} {file[2:]} 4 {counters} 16384 5"
+    yield f"select {overfull_list()} {file * 2} 8 4 100 5"
 
 
 # ---------------------------------------------------------------- Change of priority
@@ -282,25 +287,25 @@ def priority_changes(random):
                       for pointer in random.sample(range(1, 9), 8)])
     for position in range(10):
         for code in [*range(18), LARGEST]:
-            yield f"priority {plain} 8 {position} {code}"
+            yield f"priority {plain} 8 {counters_for(8, position + code)} {position} {code}"
     networks = listing((1, 66, 9, 4, 5), (2, 80, 0, 1), (3, 5, 15, 3, 0xFFFFFF), (4, 66, 12, 2, 0))
     for position in (1, 2, 3, 4, 5, 8, 9, 255, 256, 257, LARGEST):
         for code in (0, 6, 15):
-            yield f"priority {networks} 4 {position} {code}"
+            yield f"priority {networks} 4 {counters_for(4, position + code)} {position} {code}"
     yield from refused_changes(random, networks)
 
 
 def refused_changes(random, good):
     for size in (0, 1, 28, 30, 58):
-        yield f"priority {noise(random, size)} 4 1 1"
-        yield f"priority {noise(random, size)} 9 0 13"
+        yield f"priority {noise(random, size)} 4 4 1 1"
+        yield f"priority {noise(random, size)} 9 0 0 13"
     for positions in (0, 1, 3, 4, 8, 9, LARGEST):
-        yield f"priority {good} {positions} 1 1"
-    for broken in broken_lists():
+        yield f"priority {good} {positions} {min(positions, 4)} 1 1"
+    for index, broken in enumerate(broken_lists()):
         for position, code in ((1, 1), (0, 1), (9, 1), (1, 13), (1, 16)):
-            yield f"priority {broken} 4 {position} {code}"
-    yield f"priority {overfull_list()} 8 1 1"
-    yield f"priority {ZEROS} 8 1 1"
+            yield f"priority {broken} 4 {counters_for(4, index)} {position} {code}"
+    yield f"priority {overfull_list()} 8 4 1 1"
+    yield f"priority {ZEROS} 8 2 1 1"
 
 
 # ---------------------------------------------------------------- Loading

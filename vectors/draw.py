@@ -23,8 +23,21 @@ def special_list(specials):
     return Layout("special", f" {specials}", 29, model.walk_special_list)
 
 
-def contract_list(positions):
-    return Layout("list", f" {positions}", 29, lambda walk: model.walk_contract_list(walk, positions))
+def contract_list(positions, counters):
+    def walk(drawing):
+        model.walk_contract_list(drawing, positions)
+        drawing.counters = counters
+    return Layout("list", f" {positions} {counters}", 29, walk)
+
+
+def counters_for(positions, index):
+    """A C for a card with this N, 0 to 4 and at most N; with the next index the next one."""
+    return index % (min(positions, 4) + 1)
+
+
+def own_counters(positions, lent):
+    """A C for a card with this N. The chance is the lent list's, so that C changes nothing else that is drawn."""
+    return Random(lent).randint(0, min(positions, 4))
 
 
 def contract(kind):
@@ -34,7 +47,9 @@ def contract(kind):
 class Drawing(model.Walk):
     """Numbers in `fixed`, by the field's name, are taken as they are, legal or not; the others are drawn and legal, and
     zero where the field is absent. Nothing is refused. `place` stays at the end of the last field; the bits of the
-    margin, which follow there, can be fixed, too."""
+    margin, which follow there, can be fixed, too. A contract list has `counters`, and its words have a tally."""
+
+    counters = None
 
     def __init__(self, random, size, fixed):
         self.random, self.size, self.fixed = random, size, fixed
@@ -92,8 +107,25 @@ class Drawing(model.Walk):
         """A list has none."""
 
     def words(self, changes=()):
-        """The numbers in card order and the margin, with others for the fields named in `changes`."""
-        return " ".join(model.to_word(given) for given in model.numbers_of({**self.value, **dict(changes)}))
+        """The numbers in card order and the margin or the tally, with others for the fields named in `changes`; the
+        tally is then the changed value's, if it is not among them."""
+        value = {**self.value, **dict(changes)}
+        if self.counters is not None:
+            value.setdefault("tally", count_again(value, self.counters))
+        return " ".join(model.to_word(given) for given in model.numbers_of(value))
+
+
+def count_again(value, counters, codes=(15,)):
+    """The tally of a contract list's value: used counter pointers, used plain pointers, entries of priority 15 on
+    counter positions, on plain ones; or of other codes. In a value at fault a pointer that no card has is passed
+    over."""
+    numbers = [0, 0, 0, 0]
+    for number in range(1, min(value["count"][0], 8) + 1):
+        (pointer,), (_, _, priority) = value[f"entry {number} pointer"], value[f"entry {number} tariff"]
+        if 1 <= pointer <= 8:
+            numbers[0 if pointer <= counters else 1] |= 1 << pointer - 1
+            numbers[2 if pointer <= counters else 3] += 1 if priority in codes else 0
+    return numbers
 
 
 def draw(random, layout, fixed=()):

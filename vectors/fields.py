@@ -2,7 +2,8 @@
 that reads the record."""
 
 from cards import FULL, event, listing, load_line
-from draw import EVENT, contract, contract_list, draw, holder, list_entries, noise, read, record, special_list, write
+from draw import (EVENT, contract, contract_list, counters_for, draw, holder, list_entries, noise, read, record,
+                  special_list, write)
 from records import any_value
 
 FILE = "99" * 29 * 8
@@ -19,8 +20,8 @@ def at_fault(random, layout, drawing):
     yield read(layout, lent)
     yield write(layout, noise(random, layout.size), drawing.words())
     if layout.name == "list":
-        yield f"select {lent} {FILE} 8 100 5"
-        yield f"priority {lent} 8 1 1"
+        yield f"select {lent} {FILE}{layout.parameters} 100 5"
+        yield f"priority {lent}{layout.parameters} 1 1"
         yield load_line(contract_list=lent, file=FILE, positions=8)
     elif layout.name == "special":
         yield load_line(contract_list=FULL, special_list=lent, records=event() * 4, specials=4)
@@ -42,7 +43,7 @@ RARE = [
     (EVENT, {"bitmap": 0x5FFF}),
     (EVENT, {"bitmap": 0xFFFD}),
     (holder(29), {"bitmap": 0b01101010, "birth bitmap": 3, "profile count": 1, "profile 1 bitmap": 0b010}),
-    (contract_list(8), list_entries([(7, 1), (7, 2), (3, 0), (3, 0), (7, 5)])),
+    (contract_list(8, 2), list_entries([(7, 1), (7, 2), (3, 0), (3, 0), (7, 5)])),
     (contract(80), {"bitmap": 127, "validity bitmap": 3, "groups": 0b111}),
 ]
 
@@ -86,7 +87,7 @@ OUT_OF_RANGE = [
     (holder(58), {"bitmap": 192, "profile count": 1, "data bitmap": 1 << 4, "work place": 100000}),
     (holder(58), {"bitmap": 192, "profile count": 3, "data bitmap": 1 << 5, "study place": 100000}),
     (special_list(4), {"count": 5}),
-    (contract_list(8), {"count": 9}),
+    (contract_list(8, 4), {"count": 9}),
     (contract(66), {"bitmap": 72, "sale minute": 1440}),
     (contract(80), {"bitmap": 80, "groups": 1 << 7 | 1 << 13, "end minute": 1440}),
 ]
@@ -100,7 +101,8 @@ def out_of_range(random):
         for bitmap in (0, 6):
             entries = [(bitmap, pointer) for pointer in range(1, number)] + [(6, number)]
             fixed = {**list_entries(entries), f"entry {number} tariff": [number, 66, 13]}
-            yield from at_fault(random, contract_list(8), draw(random, contract_list(8), fixed))
+            layout = contract_list(8, counters_for(8, number))
+            yield from at_fault(random, layout, draw(random, layout, fixed))
 
 
 # ---------------------------------------------------------------- The 2 of a new list

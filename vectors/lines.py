@@ -11,7 +11,8 @@ PADDED = f"special.read {ZEROS} "
 
 def requests():
     """Bytes, since some of these lines are not text."""
-    for family in (words, numbers, byte_strings, separators, flags, codes, tags, margins, long_lines):
+    for family in (words, numbers, byte_strings, separators, flags, codes, tags, margins, counters, tallies,
+                   long_lines):
         for line in family():
             yield line if isinstance(line, bytes) else line.encode()
 
@@ -22,10 +23,10 @@ def words():
     yield from (f"env.write {ZEROS}", f"env.write {ZEROS} {ENV_ZEROS[2:]} {ZEROS}",
                 f"env.write {ZEROS} {ENV_ZEROS} 0 {ZEROS}")
     for name, count, margin in (("holder", 111, [HOLDER_ZEROS]), ("event", 35, [ZEROS]), ("special", 22, []),
-                                ("list", 50, [])):
+                                ("list", 55, [])):
         for given in (count - 1, count, count + 1):
             yield " ".join([f"{name}.write", ZEROS] + ["0"] * given + margin)
-    yield from (f"select {ZEROS} {ZEROS} 1 0", f"select {ZEROS} {ZEROS} 1 0 0 0", f"priority {ZEROS} 1 1")
+    yield from (f"select {ZEROS} {ZEROS} 1 0 0", f"select {ZEROS} {ZEROS} 1 0 0 0 0", f"priority {ZEROS} 1 1")
     yield from (f"load {ZEROS}", f"apply {ZEROS}", f"find {ZEROS} {ZEROS}", f"join {ZEROS} {ZEROS} {ZEROS} {ZEROS}")
 
 
@@ -120,9 +121,34 @@ def wrong_twice():
         for margin in (ZEROS, "FF" * 29, ZEROS[2:], ZEROS + "00", "-"):
             yield f"env.write {'00' * size or '-'} {ENV_ZEROS} {margin}"
             yield f"contract.write {'00' * size or '-'} 67 {' '.join(['0'] * 10)} {margin}"
-    for name, numbers in (("special.write", " 4" + " 0" * 21), ("list.write", " 4" + " 0" * 49)):
+    for name, numbers in (("special.write", " 4" + " 0" * 21), ("list.write", " 4 4" + " 0" * 53)):
         for margin in ("", " -", f" {ZEROS}"):
             yield f"{name} {ZEROS}{numbers}{margin}"
+
+
+def counters():
+    """C stands behind N wherever a contract list is read or written; the line of before Q-8, which lacks it, is no
+    request. The special event list has none."""
+    entries = " 0" * 49
+    for before, behind in ((f"list.read {ZEROS} 1", ""), (f"list.write {ZEROS} 1", entries + " 0" * 4),
+                           (f"select {ZEROS} {ZEROS} 1", " 0 0"), (f"priority {ZEROS} 1", " 1 1")):
+        for given in ("", " 0", " 1", " 00", " 2", " 0 0", " 4294967295", " 4294967296", " -", " x", " +1", " -1",
+                      " 0x1", " ", f" {ZEROS}"):
+            yield before + given + behind
+    yield from (f"list.write {ZEROS} 1{entries}", f"list.write {ZEROS} 1 0{entries}",
+                f"special.read {ZEROS} 4 4", f"special.write {ZEROS} 4 4" + " 0" * 21)
+
+
+def tallies():
+    """Four numbers behind the entries of a list to write, whether the list is legal or not."""
+    for entries in (["0"] * 49, ["0"] * 48 + ["9"]):
+        for count in (0, 1, 2, 3, 4, 5, 6, 8):
+            yield " ".join(["list.write", ZEROS, "8", "4", *entries, *["0"] * count])
+        for index in range(4):
+            for number in ("00", "1", "4294967295", "4294967296", "-", "-1", "x", "0x0", "", ZEROS):
+                numbers = ["0"] * 4
+                numbers[index] = number
+                yield " ".join(["list.write", ZEROS, "8", "4", *entries, *numbers])
 
 
 def long_lines():

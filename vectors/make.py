@@ -15,6 +15,7 @@ import lines
 import margins
 import model
 import records
+import tallies
 
 HERE = Path(__file__).resolve().parent
 DEFAULT_STDIN = HERE / "../crates/replay/stdin"
@@ -112,9 +113,14 @@ MARGIN_FAULTS = {
 }
 MARGIN_WRITERS = {name for name, _ in MARGIN_FAULTS}
 
-WITH_PARAMETER = ("special", "list", "contract")          # a number follows the record
+PARAMETERS = {"special": 1, "list": 2, "contract": 1}     # how many numbers follow the record
 TYPE_REFUSED = "3 0 0"
 ALL_ONES = "FF" * 32                                      # all codes marked
+P2_ENTRIES = "6 0 0 16 6 1 6 0 2 16 9 2 6 0 2 5 15 3" + " 0" * 30
+C_AT = {"list.read": 2, "list.write": 2, "select": 3, "priority": 2}     # which word is C; the one before is N
+UP_TO_TALLY = 3 + 49                                      # words of an answer of list.read
+ANY_TALLIES = [0, 0, 0, 0], [1, 0, 0, 0], [0, 128, 0, 1], [4294967295] * 4
+TALLY_REFUSED = "6 0 0 "
 TURNED_OVER = str.maketrans("0123456789ABCDEF", "FEDCBA9876543210")
 
 
@@ -123,22 +129,22 @@ def ask(request):
 
 
 def check_samples():
-    """P1 to P13 and the second slip, as document 01 gives them, with the field of Q-2, the margin of Q-7 and the marked
-    code of Q-3 (P13 also with the code unmarked and without a code: free both times)."""
+    """P1 to P13 and the second slip, as document 01 gives them, with the field of Q-2, the margin of Q-7, the marked
+    code of Q-3 (P13 also with the code unmarked and without a code: free both times) and the tally of Q-8."""
     zeros, p2 = "0" * 58, cards.P2_LIST
     p9, p9_past = (cards.event(0, minute, code=None) for minute in (1439, 1440))
-    assert ask(f"list.read {zeros} 4") == "0 0 0 0" + " 0" * 48                                            # P1
-    assert ask(f"list.read {p2} 4") == "0 0 0 3 6 0 0 16 6 1 6 0 2 16 9 2 6 0 2 5 15 3" + " 0" * 30        # P2
+    assert ask(f"list.read {zeros} 4 4") == "0 0 0 0" + " 0" * 52                                          # P1
+    assert ask(f"list.read {p2} 4 4") == f"0 0 0 3 {P2_ENTRIES} 7 0 1 0"                                   # P2
     loaded = ask(cards.load_line(contract_list=p2, counters=4, key=2, priority=6)).split(" ")
     assert loaded[:5] == ["0", "0", "0", "4", "4C020C1C42122C40BE3C484C4" + "0" * 33]                      # P3
     assert loaded_pointers((1, 2, 5, 3, 6, 7, 8, 4), range(4, 9), 0) == (5, [1, 2, 3, 6, 7, 8, 4, 5])      # P4
     assert loaded_pointers((1, 2, 5, 3, 6, 7, 8, 4), range(4, 9), 1)[0] == 4                               # P5
-    assert ask("list.read 1C021A1" + "0" * 51 + " 4") == "4 7 3"                                           # P6
+    assert ask("list.read 1C021A1" + "0" * 51 + " 4 4") == "4 7 3"                                         # P6
     assert [contract_bits(groups) for groups in (0xD843, 0x810D, 0x0030)] == [207, 198, 142]               # P7
     assert ask(f"event.read {cards.record(cards.bits((0, 25), (1 << 17, 28)))}") == "2 53 20"              # P8
     assert ask(f"event.read {p9}") == "0 0 0 0 1439" + " 0" * 33 + f" {zeros}"                             # P9
     assert ask(f"event.read {p9_past}") == "4 14 1"
-    assert ask(f"list.read {zeros[2:]}01 4") == "5 231 0"                                                  # P10
+    assert ask(f"list.read {zeros[2:]}01 4 4") == "5 231 0"                                                # P10
     assert ask(f"find 05{zeros[2:]} 07{zeros[2:]} {zeros}") == f"0 0 0 02{zeros[2:]}"                      # P11
     assert ask(f"find 05{zeros[2:]} 06{zeros[2:]} {zeros}") == f"10 7 0 {zeros}"                           # P12
     assert [ask(line)[:7] for line in cards.p13_lines(119)] == ["9 0 0 0", "0 0 0 1", "0 0 0 1"]           # P13
@@ -176,11 +182,33 @@ def check_code_samples():
         assert ask(cards.quiet_line(codes=marked.translate(TURNED_OVER), **given)).startswith("0 0 0 1 ")
 
 
+def check_tally_samples():
+    """Q-8 by hand: P2's list, whose pointers are 1, 2 and 3 and whose third entry is used up, with each C; then P4's,
+    of all eight pointers, of which 4 to 8 are used up; then a single entry at the last counter position and at the
+    first plain one. Each is refused with one added to any of the four."""
+    p4 = cards.listing(*[(0, 66, 15 if pointer >= 4 else 6, pointer) for pointer in (1, 2, 5, 3, 6, 7, 8, 4)])
+    one = [cards.listing((15, 15, priority, 4)) for priority in (15, 14)]
+    for lent, positions, counters, tally in (
+            (cards.P2_LIST, 4, 0, [0, 0b111, 0, 1]), (cards.P2_LIST, 4, 1, [0b001, 0b110, 0, 1]),
+            (cards.P2_LIST, 4, 2, [0b011, 0b100, 0, 1]), (cards.P2_LIST, 4, 3, [0b111, 0, 1, 0]),
+            (cards.P2_LIST, 4, 4, [0b111, 0, 1, 0]), (p4, 8, 4, [0b00001111, 0b11110000, 1, 4]),
+            (p4, 8, 3, [0b00000111, 0b11111000, 0, 5]), (one[0], 8, 4, [0b1000, 0, 1, 0]),
+            (one[0], 8, 3, [0, 0b1000, 0, 1]), (one[1], 8, 4, [0b1000, 0, 0, 0]), (one[1], 8, 3, [0, 0b1000, 0, 0])):
+        value = ask(f"list.read {lent} {positions} {counters}").split(" ")[3:]
+        assert value[-4:] == [str(number) for number in tally]
+        given = " ".join([f"list.write {lent} {positions} {counters}", *value[:-4]])
+        for index in range(4):
+            wrong = [number + (other == index) for other, number in enumerate(tally)]
+            assert ask(with_tally(given, wrong)) == TALLY_REFUSED + lent
+    assert ask(f"list.write {cards.ZEROS} 4 4 3 {P2_ENTRIES} 7 0 1 0") == f"0 0 0 {cards.P2_LIST}"
+    assert ask(f"list.read {cards.P2_LIST} 3 4") == ask(f"list.read {cards.P2_LIST} 4 5") == "11 0 0"
+
+
 def loaded_pointers(listed, erasable, needs_counter):
     """The pointer taken and the pointers of the new list."""
     *refusal, pointer, new_list, _ = ask(cards.p4_line(listed, erasable, needs_counter)).split(" ")
     assert refusal == ["0", "0", "0"]
-    numbers = model.read_contract_list(bytes.fromhex(new_list), 8)
+    numbers = model.read_contract_list(bytes.fromhex(new_list), 8, 4)
     return int(pointer), [entry.pointer for entry in model.contract_entries(numbers)]
 
 
@@ -194,7 +222,8 @@ def contract_bits(groups):
 def drawn_requests():
     """In order, each once."""
     random = Random(SEED)
-    made = [request for maker in (cards, records, fields, margins, codes) for request in maker.requests(random)]
+    made = [request for maker in (cards, records, fields, margins, codes, tallies)
+            for request in maker.requests(random)]
     return list(dict.fromkeys(made))
 
 
@@ -209,9 +238,9 @@ def check_round_trips(requests):
             value = answer.split(" ")[3:]
             assert ask(" ".join([f"{structure}.write", lent, *words, *value])) == f"0 0 0 {lent}", request
         elif step == "write" and accepted(answer):
-            parameters, value = (words[:1], words[1:]) if structure in WITH_PARAMETER else ([], words)
-            reading = " ".join([f"{structure}.read", *answer.split(" ")[3:], *parameters])
-            assert ask(reading) == " ".join(["0 0 0", *value]), request
+            count = PARAMETERS.get(structure, 0)
+            reading = " ".join([f"{structure}.read", *answer.split(" ")[3:], *words[:count]])
+            assert ask(reading) == " ".join(["0 0 0", *words[count:]]), request
 
 
 def accepted(answer):
@@ -264,7 +293,7 @@ def check_cards(requests):
             file = split(words[1])
             if answer[0] == "0":
                 assert answer[6] == file[int(answer[4]) - 1], request
-            words[1] = "".join(plain_contracts(words[0], file, words[2]))
+            words[1] = "".join(plain_contracts(words[0], file, words[2], words[3]))
             assert ask(" ".join([name, *words])).split(" ")[:6] == answer[:6], request
         elif name == "load" and answer[0] in ("0", "9"):
             if answer[0] == "0":
@@ -311,15 +340,132 @@ def changed(words, journal, marks):
     return " ".join(["load", *words[:3], "".join(journal) or "-", *words[4:6], marks, *words[7:]])
 
 
+def check_counters(requests):
+    """Q-8, for each call that takes C but loading. Where the lengths are right, C outside its limits is 11, whatever
+    else is wrong. With each C within them, selection and change of priority answer the same, and so does reading, but
+    for the tally."""
+    for request in requests:
+        name, *words = request.split(" ")
+        if name in C_AT and not ask(request).startswith("1 "):
+            positions = int(words[C_AT[name] - 1])
+            for counters in (5, min(positions + 1, cards.LARGEST), cards.LARGEST):
+                assert first_three(ask(with_counters(request, counters))) == (11, 0, 0), request
+            if name != "list.write":
+                answers = [ask(with_counters(request, counters)) for counters in range(min(positions, 4) + 1)]
+                assert len({tuple(answer.split(" ")[:UP_TO_TALLY]) for answer in answers}) == 1, request
+
+
+def with_counters(request, counters):
+    """The request with another C."""
+    name, *words = request.split(" ")
+    words[C_AT[name]] = str(counters)
+    return " ".join([name, *words])
+
+
+def check_tallies(requests):
+    """Q-8, for each list. One that is read has the tally that its other words give. One that is written has it or is
+    refused with 6, 0, 0, and so it is with one added to any of the four; if it is refused otherwise, then with any
+    tally alike."""
+    for request in requests:
+        name, lent, *words = request.split(" ")
+        answer = ask(request)
+        if name == "list.read" and accepted(answer):
+            value = answer.split(" ")[3:]
+            assert counted(value, int(words[1])) == [int(number) for number in value[-4:]], request
+        elif name == "list.write":
+            given, tally = " ".join([name, lent, *words[:-4]]), [int(number) for number in words[-4:]]
+            if accepted(answer) or answer.startswith(TALLY_REFUSED):
+                right = counted(words[2:], int(words[1]))
+                assert accepted(answer) == (tally == right), request
+                assert accepted(ask(with_tally(given, right))), request
+                for index in range(4):
+                    wrong = [*right[:index], right[index] + 1, *right[index + 1:]]
+                    assert ask(with_tally(given, wrong)) == TALLY_REFUSED + lent, request
+            else:
+                assert {ask(with_tally(given, any_tally)) for any_tally in ANY_TALLIES} == {answer}, request
+
+
+def counted(value, counters):
+    """The tally of a list's words, pointer by pointer."""
+    priorities = {int(value[6 * number]): int(value[6 * number - 1]) for number in range(1, int(value[0]) + 1)}
+    sides = [[pointer for pointer in side if pointer in priorities]
+             for side in (range(1, counters + 1), range(counters + 1, 9))]
+    return [*[sum(2 ** (pointer - 1) for pointer in side) for side in sides],
+            *[sum(priorities[pointer] == 15 for pointer in side) for side in sides]]
+
+
+def with_tally(request, tally):
+    return " ".join([request, *map(str, tally)])
+
+
+def check_changed_lists(requests):
+    """Q-8: what a change of priority, removing and appending do to the tally: the entry's pointer stays in use or comes
+    into use, and on its side one entry more or less is used up, or as many as before."""
+    for request in requests:
+        name, lent, *words = request.split(" ")
+        answer = ask(request).split(" ")
+        if name == "priority" and answer[0] == "0":
+            positions, counters, position, code = map(int, words)
+            value = ask(f"list.read {lent} {positions} {counters}").split(" ")[3:]
+            pointer, old, after = int(value[6 * position]), int(value[6 * position - 1]), answer[3]
+            assert changed_tally(lent, after, positions, counters, pointer) == (0, (code == 15) - (old == 15)), request
+        elif name == "load" and answer[0] == "0":
+            positions, counters, priority, pointer, after = *map(int, (*words[6:8], words[14], answer[3])), answer[4]
+            came, more = changed_tally(lent, after, positions, counters, pointer)
+            assert more == (priority == 15) - (came == 0), request
+
+
+def changed_tally(before, after, positions, counters, pointer):
+    """Whether the pointer came into use, and how many entries more are used up on its side; nothing else differs."""
+    old, new = (tally_of(lent, positions, counters) for lent in (before, after))
+    side = 0 if pointer <= counters else 1
+    came, more = new[side] - old[side], new[2 + side] - old[2 + side]
+    assert came in (0, 1 << pointer - 1) and new[side] >> pointer - 1 & 1 == 1
+    assert (new[1 - side], new[3 - side]) == (old[1 - side], old[3 - side])
+    return came >> pointer - 1, more
+
+
+def tally_of(lent, positions, counters):
+    """The tally of the list in this record."""
+    return [int(number) for number in ask(f"list.read {lent} {positions} {counters}").split(" ")[-4:]]
+
+
+def check_places(requests):
+    """Q-8: "Loading uses them instead of counting". For each loading whose records read, the old list's tally says by
+    itself: the lowest pointer that is not in use; else one in use, where any entry is used up; else the next side, or
+    no position at all."""
+    for request in requests:
+        name, lent, *words = request.split(" ")
+        answer = ask(request).split(" ")
+        if name == "load" and answer[0] in ("0", "9"):
+            positions, counters, needs_counter = int(words[6]), int(words[7]), words[-1] == "1"
+            tally = tally_of(lent, positions, counters)
+            plain = range(counters + 1, positions + 1), tally[1], tally[3]
+            counter = range(1, counters + 1), tally[0], tally[2]
+            assert int(answer[3]) in places([counter] if needs_counter else [plain, counter]), request
+
+
+def places(sides):
+    """The pointers that loading may take, 0 for none, by what is in use and how many are used up on each side."""
+    found = set()
+    for pointers, in_use, used_up in sides:
+        free = [pointer for pointer in pointers if not in_use >> pointer - 1 & 1]
+        if free:
+            return found | {min(free)}
+        if used_up:
+            found |= set(pointers)
+    return found | {0}
+
+
 def plain_event(record):
     """The event without its margin."""
     *value, margin = ask(f"event.read {record}").split(" ")[3:]
     return ask(" ".join([f"event.write {record}", *value, "0" * len(margin)])).split(" ")[3]
 
 
-def plain_contracts(contract_list, file, positions):
+def plain_contracts(contract_list, file, positions, counters):
     """The records of the file, those without margins that read under their entry's type."""
-    numbers = model.read_contract_list(bytes.fromhex(contract_list), int(positions))
+    numbers = model.read_contract_list(bytes.fromhex(contract_list), int(positions), int(counters))
     plain = list(file)
     for entry in model.contract_entries(numbers):
         record = file[entry.pointer - 1]
@@ -387,12 +533,12 @@ def walk_at_fault(request, answer):
 def readings(name, words):
     """What selection, change of priority or loading reads, in order."""
     if name == "select":
-        return [("list", name, f"list.read {words[0]} {words[2]}")]
+        return [("list", name, f"list.read {words[0]} {words[2]} {words[3]}")]
     if name == "priority":
-        return [("list", name, f"list.read {words[0]} {words[1]}")]
-    contract_list, _, special_list, journal, special_events, new, _, positions, _, specials, *_ = words
+        return [("list", name, f"list.read {words[0]} {words[1]} {words[2]}")]
+    contract_list, _, special_list, journal, special_events, new, _, positions, counters, specials, *_ = words
     kind = words[14]
-    return [("list", name, f"list.read {contract_list} {positions}"),
+    return [("list", name, f"list.read {contract_list} {positions} {counters}"),
             ("special", name, f"special.read {special_list} {specials}"),
             *[("event", "load's journal", f"event.read {record}") for record in split(journal)],
             *[("event", "load's records", f"event.read {record}") for record in split(special_events)],
@@ -422,11 +568,16 @@ def main(stdin=DEFAULT_STDIN, stdout=DEFAULT_STDOUT):
     check_samples()
     check_margin_samples()
     check_code_samples()
+    check_tally_samples()
     drawn = drawn_requests()
     check_round_trips(drawn)
     check_margins(drawn)
     check_cards(drawn)
     check_codes(drawn)
+    check_counters(drawn)
+    check_tallies(drawn)
+    check_changed_lists(drawn)
+    check_places(drawn)
     requests = [line.encode() for line in drawn] + list(lines.requests())
     answers = [model.answer(request) for request in requests]
     pairs = count_pairs(requests, answers)

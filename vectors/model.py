@@ -1,5 +1,5 @@
-"""A plain model of the operations, written from document 01, from requests Q-2, Q-3 and Q-7 of document 02, and from
-nothing else.
+"""A plain model of the operations, written from document 01, from requests Q-2, Q-3, Q-7 and Q-8 of document 02, and
+from nothing else.
 
 `answer(line)` takes one request line of REPLAY.md (bytes, without its line feed) and gives the answer line.
 
@@ -16,6 +16,7 @@ HOLDER_AREAS = (29, 58, 87, 116)
 LARGEST_AREA = 116               # a Holder's margin has this length in every area
 MOST_RECORDS = 15                # "A multiple with more than 15 records is 11."
 MOST_ENTRIES = 8                 # the largest N
+MOST_COUNTERS = 4                # the largest C
 MOST_SPECIALS = 4
 MOST_PROFILES = 4
 ALL_CODES = 32                   # bytes of the marked codes: "one bit for each event code"
@@ -420,6 +421,7 @@ def walk_data_50(walk):
 
 Entry = namedtuple("Entry", "bitmap network key kind priority pointer")
 SpecialEntry = namedtuple("SpecialEntry", "bitmap network provider seriousness pointer")
+Tally = namedtuple("Tally", "counter_pointers plain_pointers counter_erasable plain_erasable")
 
 
 def require_lengths(*pairs):
@@ -438,6 +440,11 @@ def require(*limits):
     """11: "parameter outside its limits"."""
     if not all(limits):
         raise Refused(11)
+
+
+def card_limits(positions, counters):
+    """Whether N and C are within 01's limits. Q-8: "each call that reads or writes a list now takes C"."""
+    return 1 <= positions <= MOST_ENTRIES and counters <= MOST_COUNTERS and counters <= positions
 
 
 def read_walk(record, walk_layout, *parameters):
@@ -473,17 +480,43 @@ def require_list_rule(entries, complete, highest):
         seen.append(pointer)
 
 
-def read_contract_list(record, positions):
-    """Gives the numbers. 5, then 6."""
+def read_contract_list(record, positions, counters):
+    """Gives the numbers, the tally last. 5, then 6."""
     numbers = numbers_of(read_walk(record, walk_contract_list, positions))
     require_contract_list_rule(numbers, positions)
-    return numbers
+    return numbers + list(tally(contract_entries(numbers), counters))
 
 
-def write_contract_list(numbers, positions):
+def write_contract_list(numbers, positions, counters):
+    """The last four numbers are the tally. Q-8: "The written record does not change": it goes no further than here."""
     written = write_walk(RECORD, numbers, walk_contract_list, positions)
     require_contract_list_rule(numbers, positions)
+    require_tally(numbers, counters)
     return written
+
+
+def require_tally(numbers, counters):
+    """Q-8: "writing a value whose tally differs from a fresh count is 6 with place 0, after the other list rules"."""
+    if Tally(*numbers[-4:]) != tally(contract_entries(numbers), counters):
+        raise Refused(6)
+
+
+def tally(entries, counters):
+    """A fresh count over the counted entries. Q-8: "for counter and for plain positions, which pointers are in use and
+    how many entries have priority 15". 01: "counter positions C": "pointers 1 to C; the rest are plain"."""
+    on_counters = [entry for entry in entries if entry.pointer <= counters]
+    on_plain = [entry for entry in entries if entry.pointer > counters]
+    return Tally(in_use(on_counters), in_use(on_plain), used_up(on_counters), used_up(on_plain))
+
+
+def in_use(entries):
+    """A mask: bit pointer - 1 is one for each pointer in use."""
+    listed = [entry.pointer for entry in entries]
+    return sum(1 << pointer - 1 for pointer in range(1, MOST_ENTRIES + 1) if pointer in listed)
+
+
+def used_up(entries):
+    return len([entry for entry in entries if entry.priority == ERASABLE])
 
 
 def require_contract_list_rule(numbers, positions):
@@ -492,7 +525,7 @@ def require_contract_list_rule(numbers, positions):
 
 
 def contract_entries(numbers):
-    """Takes the count and 8 times the 6 numbers of an entry; gives the counted entries."""
+    """Takes the count and 8 times the 6 numbers of an entry, whatever follows; gives the counted entries."""
     return [Entry(*numbers[1 + 6 * index:7 + 6 * index]) for index in range(numbers[0])]
 
 
@@ -567,16 +600,16 @@ def special_write(record, specials, *numbers):
     return [written]
 
 
-def list_read(record, positions):
+def list_read(record, positions, counters):
     require_lengths((record, RECORD))
-    require(1 <= positions <= MOST_ENTRIES)
-    return read_contract_list(record, positions)
+    require(card_limits(positions, counters))
+    return read_contract_list(record, positions, counters)
 
 
-def list_write(record, positions, *numbers):
+def list_write(record, positions, counters, *numbers):
     require_lengths((record, RECORD))
-    require(1 <= positions <= MOST_ENTRIES)
-    return [write_contract_list(numbers, positions)]
+    require(card_limits(positions, counters))
+    return [write_contract_list(numbers, positions, counters)]
 
 
 def contract_read(record, kind):
@@ -592,10 +625,10 @@ def contract_write(record, kind, *numbers):
 
 # ---------------------------------------------------------------- Which contract the gate uses
 
-def select(contract_list, file, positions, day, operator):
+def select(contract_list, file, positions, counters, day, operator):
     require_lengths((contract_list, RECORD), (file, RECORD * positions))
-    require(1 <= positions <= MOST_ENTRIES, day <= 16383, operator <= 255)
-    entries = contract_entries(read_contract_list(contract_list, positions))
+    require(card_limits(positions, counters), day <= 16383, operator <= 255)
+    entries = contract_entries(read_contract_list(contract_list, positions, counters))
     best = None
     for position, entry in enumerate(entries, 1):
         if eligible(entry, part(file, entry.pointer), day, operator):
@@ -639,14 +672,14 @@ def valid_on(day, contract):
     return not too_early and not too_late
 
 
-def change_priority(contract_list, positions, position, code):
+def change_priority(contract_list, positions, counters, position, code):
     """01: "only those four bits change": the list is written again with all its other numbers as they were read."""
     require_lengths((contract_list, RECORD))
-    require(1 <= positions <= MOST_ENTRIES, position >= 1, usable_code(code))
-    entries = contract_entries(read_contract_list(contract_list, positions))
+    require(card_limits(positions, counters), position >= 1, usable_code(code))
+    entries = contract_entries(read_contract_list(contract_list, positions, counters))
     require(position <= len(entries))
     entries[position - 1] = entries[position - 1]._replace(priority=code)
-    return [write_contract_list(list_numbers(entries), positions)]
+    return [write_contract_list(list_numbers(entries, counters), positions, counters)]
 
 
 def usable_code(code):
@@ -654,10 +687,11 @@ def usable_code(code):
     return code <= 15 and code != UNDEFINED
 
 
-def list_numbers(entries):
-    """The numbers of a contract list in card order, uncounted entries as zeros."""
+def list_numbers(entries, counters):
+    """The numbers of a contract list in card order, uncounted entries as zeros, then the tally."""
     absent = [Entry(0, 0, 0, 0, 0, 0)] * (MOST_ENTRIES - len(entries))
-    return [len(entries)] + [number for entry in entries + absent for number in entry]
+    in_card_order = [len(entries)] + [number for entry in entries + absent for number in entry]
+    return in_card_order + list(tally(entries, counters))
 
 
 # ---------------------------------------------------------------- Where a new contract goes
@@ -667,11 +701,11 @@ def load(contract_list, file, special_list, journal, records, new, codes, positi
     require_lengths((contract_list, RECORD), (file, RECORD * positions), (special_list, RECORD),
                     (records, RECORD * specials), (new, RECORD), (codes, ALL_CODES))
     require_records(journal)
-    require(1 <= positions <= MOST_ENTRIES, counters <= 4, counters <= positions, specials <= MOST_SPECIALS,
-            len(journal) <= RECORD * MOST_RECORDS, day <= 16383, minute <= 1439, hours <= 255,
-            key <= 15, kind <= 255, usable_code(priority), network < (1 << 24 if has_network else 1))
+    require(card_limits(positions, counters), specials <= MOST_SPECIALS, len(journal) <= RECORD * MOST_RECORDS,
+            day <= 16383, minute <= 1439, hours <= 255, key <= 15, kind <= 255, usable_code(priority),
+            network < (1 << 24 if has_network else 1))
 
-    entries = contract_entries(read_contract_list(contract_list, positions))
+    entries = contract_entries(read_contract_list(contract_list, positions, counters))
     listed_specials = special_entries(read_special_list(special_list, specials))
     journal_events = read_events(journal)
     special_events = read_events(records)
@@ -684,7 +718,7 @@ def load(contract_list, file, special_list, journal, records, new, codes, positi
 
     new_entry = Entry(0b111 if has_network else 0b110, network, key, kind, priority, pointer)
     kept = [entry for entry in entries if entry.pointer != pointer]
-    new_list = write_contract_list(list_numbers(kept + [new_entry]), positions)
+    new_list = write_contract_list(list_numbers(kept + [new_entry], counters), positions, counters)
     new_file = file[:RECORD * (pointer - 1)] + new + file[RECORD * pointer:]
     return [pointer, new_list, new_file]
 
@@ -854,12 +888,12 @@ OPERATIONS = {
     b"event.write": Operation([byte_string] + [NUMBER] * 35 + [MARGIN], event_write, first),
     b"special.read": Operation([byte_string, NUMBER], special_read, nothing),
     b"special.write": Operation([byte_string, NUMBER] + [NUMBER] * 21, special_write, first),
-    b"list.read": Operation([byte_string, NUMBER], list_read, nothing),
-    b"list.write": Operation([byte_string, NUMBER] + [NUMBER] * 49, list_write, first),
+    b"list.read": Operation([byte_string] + [NUMBER] * 2, list_read, nothing),
+    b"list.write": Operation([byte_string] + [NUMBER] * 2 + [NUMBER] * 53, list_write, first),
     b"contract.read": Operation([byte_string, NUMBER], contract_read, nothing),
     b"contract.write": Operation(CONTRACT_WORDS, contract_write, first),
-    b"select": Operation([byte_string] * 2 + [NUMBER] * 3, select, no_part),
-    b"priority": Operation([byte_string] + [NUMBER] * 3, change_priority, first),
+    b"select": Operation([byte_string] * 2 + [NUMBER] * 4, select, no_part),
+    b"priority": Operation([byte_string] + [NUMBER] * 4, change_priority, first),
     b"load": Operation([byte_string] * 7 + [NUMBER] * 9 + [FLAG, NUMBER, FLAG], load, nothing_loaded),
     b"apply": Operation([byte_string] * 2, apply_writes, first),
     b"find": Operation([byte_string] * 3, find_write, third),

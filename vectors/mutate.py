@@ -49,7 +49,7 @@ def without_margins(line, values):
 
 
 READINGS = {
-    "list": """    entries = contract_entries(read_contract_list(contract_list, positions))
+    "list": """    entries = contract_entries(read_contract_list(contract_list, positions, counters))
 """,
     "special list": """    listed_specials = special_entries(read_special_list(special_list, specials))
 """,
@@ -60,7 +60,10 @@ READINGS = {
     "new contract": """    read_contract(new, kind)
 """,
 }
+READ_LIST = READINGS["list"]
 READ_JOURNAL = READINGS["journal"]
+WRITE_NEW_LIST = """    new_list = write_contract_list(list_numbers(kept + [new_entry], counters), positions, counters)
+"""
 KEPT = "    kept = [entry for entry in entries if entry.pointer != pointer]\n"
 NEW_FILE = "    new_file = file[:RECORD * (pointer - 1)] + new + file[RECORD * pointer:]\n"
 PEEK = """    def peek(record):
@@ -105,6 +108,127 @@ def length_as(pair, beyond="0"):
     """CODES' length is checked as this pair; a bit past its end is taken as `beyond`."""
     return (CODES_LENGTH, f", {pair})" if pair else ")",
             BIT, BIT.replace("to_bits(codes)", f'to_bits(codes).ljust(256, "{beyond}")'))
+
+
+C_LIMITS = "card_limits(positions, counters)"
+SIDES = """    on_counters = [entry for entry in entries if entry.pointer <= counters]
+    on_plain = [entry for entry in entries if entry.pointer > counters]
+"""
+FOUR_NUMBERS = "Tally(in_use(on_counters), in_use(on_plain), used_up(on_counters), used_up(on_plain))"
+MASK = "sum(1 << pointer - 1 for pointer in range(1, MOST_ENTRIES + 1) if pointer in listed)"
+USED_UP = "len([entry for entry in entries if entry.priority == ERASABLE])"
+READ_TALLY = "list(tally(contract_entries(numbers), counters))"
+FRESH_COUNT = "tally(contract_entries(numbers), counters):\n"
+OTHER_TALLY = f"if Tally(*numbers[-4:]) != {FRESH_COUNT}"
+TALLY_REFUSED = """        raise Refused(6)
+"""
+WRITE_LIST = """    written = write_walk(RECORD, numbers, walk_contract_list, positions)
+"""
+CHECK_LIST = """    require_contract_list_rule(numbers, positions)
+    require_tally(numbers, counters)
+"""
+CHANGE_PRIORITY = """    entries[position - 1] = entries[position - 1]._replace(priority=code)
+    return [write_contract_list(list_numbers(entries, counters), positions, counters)]
+"""
+FREE = "free = [pointer for pointer in pointers if pointer not in listed]"
+
+# The calls that take C: their first checks, what comes next, and what walks over the list.
+CALLS = {
+    "reading a list": ("""    require_lengths((record, RECORD))
+    require(card_limits(positions, counters))
+""", """    return read_contract_list(record, positions, counters)
+""", """    read_contract_list(record, positions, 0)
+"""),
+    "writing a list": ("""    require_lengths((record, RECORD))
+    require(card_limits(positions, counters))
+""", """    return [write_contract_list(numbers, positions, counters)]
+""", """    write_walk(RECORD, numbers, walk_contract_list, positions)
+"""),
+    "selection": ("""    require_lengths((contract_list, RECORD), (file, RECORD * positions))
+    require(card_limits(positions, counters), day <= 16383, operator <= 255)
+""", "", READ_LIST),
+    "change of priority": ("""    require_lengths((contract_list, RECORD))
+    require(card_limits(positions, counters), position >= 1, usable_code(code))
+""", "", READ_LIST),
+    "loading": ("""    require_lengths((contract_list, RECORD), (file, RECORD * positions), (special_list, RECORD),
+                    (records, RECORD * specials), (new, RECORD), (codes, ALL_CODES))
+    require_records(journal)
+    require(card_limits(positions, counters), specials <= MOST_SPECIALS, len(journal) <= RECORD * MOST_RECORDS,
+            day <= 16383, minute <= 1439, hours <= 255, key <= 15, kind <= 255, usable_code(priority),
+            network < (1 << 24 if has_network else 1))
+""", "", READ_LIST),
+}
+
+
+def faults_of_c(call):
+    """C's limits, in this call. What is let through is cut down, so that no list gets four billion pointers."""
+    checks, then, walking = CALLS[call]
+    faults = [("C may be above 4", checks.replace(C_LIMITS, "card_limits(positions, min(counters, MOST_COUNTERS))")),
+              ("C may be above N", checks.replace(C_LIMITS, "card_limits(positions, min(counters, positions))")),
+              ("C has no limits", checks.replace(C_LIMITS, "card_limits(positions, 0)")),
+              ("of C the low eight bits count", checks.replace(C_LIMITS, "card_limits(positions, counters % 256)")),
+              ("C's limits come before the lengths",
+               f"    require(counters <= MOST_COUNTERS, counters <= positions)\n{checks}"),
+              ("C's limits come after the walk",
+               checks.replace(C_LIMITS, "card_limits(positions, 0)") + f"{walking}    require({C_LIMITS})\n")]
+    cut_down = "    counters = min(counters, 255)\n"
+    return [(f"{call}: {fault}", checks + then, wrong + cut_down + then) for fault, wrong in faults]
+
+
+def without_number(*indexes):
+    """Of the tally's numbers these are not compared."""
+    return (OTHER_TALLY, f"""given, fresh = list(numbers[-4:]), list(tally(contract_entries(numbers), counters))
+    for index in {indexes}:
+        given[index] = fresh[index]
+    if given != fresh:
+""")
+
+
+def each_number(condition):
+    """A tally is refused if this holds for any of its numbers."""
+    return (OTHER_TALLY, f"""fresh_count = tally(contract_entries(numbers), counters)
+    if any({condition} for given, fresh in zip(numbers[-4:], fresh_count)):
+""")
+
+
+def tally_before(*refusals):
+    """The tally is checked before these refusals of the fields."""
+    return (WRITE_LIST, f"""    try:
+    {WRITE_LIST}    except Refused as refused:
+        if refused.number in {refusals} and numbers[0] <= MOST_ENTRIES:
+            require_tally(numbers, counters)
+        raise
+""")
+
+
+def kept_by_change(more="code == ERASABLE", less="old.priority == ERASABLE", side="old.pointer <= counters"):
+    """Change of priority with a tally that is kept, not counted again."""
+    return (CHANGE_PRIORITY, f"""    old, kept = entries[position - 1], list(tally(entries, counters))
+    kept[2 if {side} else 3] += ({more}) - ({less})
+    entries[position - 1] = old._replace(priority=code)
+    return [write_contract_list(list_numbers(entries, counters)[:-4] + kept, positions, counters)]
+""")
+
+
+def kept_by_loading(removed="old[mask] &= ~bit; old[count] -= 1", appended="old[mask] |= bit",
+                    counted="old[count] += priority == ERASABLE", side="pointer <= counters"):
+    """Loading with a tally that is kept, not counted again."""
+    return (WRITE_NEW_LIST, f"""    old, bit = list(tally(entries, counters)), 1 << pointer - 1
+    mask, count = (0, 2) if {side} else (1, 3)
+    if len(kept) < len(entries):
+        {removed}
+    {appended}
+    {counted}
+    new_list = write_contract_list(list_numbers(kept + [new_entry], counters)[:-4] + old, positions, counters)
+""")
+
+
+def without_going_on(condition):
+    """Where this holds, loading without counter does not go on to the counter positions."""
+    return ("    if found is None:\n        found = place_among(counter_pointers",
+            f"""    used_up_entries = tally(entries, counters)
+    if found is None and (needs_counter or not ({condition})):
+        found = place_among(counter_pointers""")
 
 
 # What is wrong, the text of model.py that is right (it occurs once), the text in its place; there may be several such
@@ -195,15 +319,15 @@ MUTATIONS = [
      "raise Refused(6, seen.index(pointer) + 1 if pointer in seen else number)"),
     ("a written list need not keep the list rule",
      """    require_contract_list_rule(numbers, positions)
-    return written
+    require_tally(numbers, counters)
 """,
-     """    return written
+     """    require_tally(numbers, counters)
 """),
     ("1 and 11 swapped in selection",
      """    require_lengths((contract_list, RECORD), (file, RECORD * positions))
-    require(1 <= positions <= MOST_ENTRIES, day <= 16383, operator <= 255)
+    require(card_limits(positions, counters), day <= 16383, operator <= 255)
 """,
-     """    require(1 <= positions <= MOST_ENTRIES, day <= 16383, operator <= 255)
+     """    require(card_limits(positions, counters), day <= 16383, operator <= 255)
     require_lengths((contract_list, RECORD), (file, RECORD * positions))
 """),
     ("29 x N wraps at 2^32",
@@ -282,12 +406,12 @@ MUTATIONS = [
      """    if needs_counter:
         found = place_among(counter_pointers"""),
     ("the new entry stands first",
-     "list_numbers(kept + [new_entry])",
-     "list_numbers([new_entry] + kept)"),
+     "list_numbers(kept + [new_entry], counters)",
+     "list_numbers([new_entry] + kept, counters)"),
     ("the new entry stands where the old one was",
-     "list_numbers(kept + [new_entry])",
+     "list_numbers(kept + [new_entry], counters)",
      "list_numbers([new_entry if entry.pointer == pointer else entry for entry in entries]"
-     " + [new_entry] * (len(kept) == len(entries)))"),
+     " + [new_entry] * (len(kept) == len(entries)), counters)"),
     ("only the first gate write is applied",
      "for write in split(writes):",
      "for write in split(writes)[:1]:"),
@@ -388,20 +512,14 @@ MUTATIONS = [
         walk.rank -= 0 if index < count else 4
 """),
     ("selection drops the field",
-     """operator <= 255)
-    entries = contract_entries(read_contract_list(contract_list, positions))
-""",
-     "operator <= 255)\n" + nameless("entries = contract_entries(read_contract_list(contract_list, positions))")),
+     "operator <= 255)\n" + READ_LIST,
+     "operator <= 255)\n" + nameless(READ_LIST.strip())),
     ("change of priority drops the field",
-     """    entries = contract_entries(read_contract_list(contract_list, positions))
-    require(position <= len(entries))
-""",
-     nameless("entries = contract_entries(read_contract_list(contract_list, positions))")
-     + "    require(position <= len(entries))\n"),
+     READ_LIST + "    require(position <= len(entries))\n",
+     nameless(READ_LIST.strip()) + "    require(position <= len(entries))\n"),
     ("loading drops the field of the old list",
-     """    entries = contract_entries(read_contract_list(contract_list, positions))
-    listed_specials""",
-     nameless("entries = contract_entries(read_contract_list(contract_list, positions))") + "    listed_specials"),
+     READ_LIST + "    listed_specials",
+     nameless(READ_LIST.strip()) + "    listed_specials"),
     ("loading drops the field of a journal event",
      "    journal_events = read_events(journal)\n",
      nameless("journal_events = read_events(journal)")),
@@ -412,8 +530,8 @@ MUTATIONS = [
      "    read_contract(new, kind)\n",
      nameless("read_contract(new, kind)")),
     ("loading drops the field of a new list that does not fit",
-     "    new_list = write_contract_list(list_numbers(kept + [new_entry]), positions)\n",
-     nameless("new_list = write_contract_list(list_numbers(kept + [new_entry]), positions)")),
+     WRITE_NEW_LIST,
+     nameless(WRITE_NEW_LIST.strip())),
 
     # Q-7: the margin, read
     ("the margin is not read",
@@ -957,6 +1075,341 @@ MUTATIONS = [
      NEW_FILE, NEW_FILE.replace("new + file[RECORD * pointer:]", "new[:-1] + file[RECORD * pointer - 1:]")),
     ("the first byte of the old record stays",
      NEW_FILE, NEW_FILE.replace("(pointer - 1)] + new", "(pointer - 1) + 1] + new[1:]")),
+
+    # Q-8: C
+    *[fault for call in CALLS for fault in faults_of_c(call)],
+    ("C may be 5",
+     "MOST_COUNTERS = 4 ", "MOST_COUNTERS = 5 "),
+    ("C may be at most 3",
+     "MOST_COUNTERS = 4 ", "MOST_COUNTERS = 3 "),
+    ("C must be less than N",
+     "counters <= MOST_COUNTERS and counters <= positions", "counters <= MOST_COUNTERS and counters < positions"),
+    ("C must be at least 1",
+     "counters <= MOST_COUNTERS and counters <= positions", "1 <= counters <= MOST_COUNTERS and counters <= positions"),
+
+    # Q-8: counter and plain positions
+    ("pointer C is plain",
+     SIDES, SIDES.replace("<= counters", "< counters").replace("> counters", ">= counters")),
+    ("pointer C + 1 is a counter position",
+     SIDES, SIDES.replace("counters]", "counters + 1]")),
+    ("pointer C is on both sides",
+     SIDES, SIDES.replace("> counters", ">= counters")),
+    ("pointer C is on neither side",
+     SIDES, SIDES.replace("<= counters", "< counters")),
+    ("the plain numbers are those of all positions",
+     SIDES, SIDES.replace(" if entry.pointer > counters", "")),
+    ("the counter numbers are those of all positions",
+     SIDES, SIDES.replace(" if entry.pointer <= counters", "")),
+    ("counter and plain positions are exchanged",
+     FOUR_NUMBERS, "Tally(in_use(on_plain), in_use(on_counters), used_up(on_plain), used_up(on_counters))"),
+    ("the first C entries are on counter positions",
+     SIDES, """    on_counters, on_plain = entries[:counters], entries[counters:]
+"""),
+    ("C is 4 in each tally",
+     SIDES, SIDES.replace("counters]", "4]")),
+    ("C is 0 in each tally",
+     SIDES, SIDES.replace("counters]", "0]")),
+    ("C is 4 in the tally that is read",
+     READ_TALLY, READ_TALLY.replace("counters", "4")),
+    ("C is 4 in the tally that is compared",
+     FRESH_COUNT, FRESH_COUNT.replace("counters", "4")),
+    ("C is at most 3 in each tally",
+     SIDES, SIDES.replace("counters]", "min(counters, 3)]")),
+
+    # Q-8: which pointers are in use
+    ("a pointer's bit is that of its number",
+     MASK, MASK.replace("pointer - 1", "pointer")),
+    ("the pointers' bits stand from the top of a byte",
+     MASK, MASK.replace("pointer - 1", "8 - pointer")),
+    ("the plain pointers' bits stand from C on",
+     FOUR_NUMBERS, FOUR_NUMBERS.replace("in_use(on_plain)", "in_use(on_plain) >> counters")),
+    ("bits stand in the order of the list",
+     MASK, "(1 << len(entries)) - 1"),
+    ("pointers in use are counted",
+     MASK, "len(entries)"),
+    ("the highest pointer in use is given",
+     MASK, "max(listed, default=0)"),
+    ("pointer 8 has no bit",
+     MASK, MASK.replace("MOST_ENTRIES + 1", "MOST_ENTRIES")),
+    ("pointer 1 has no bit",
+     MASK, MASK.replace("range(1,", "range(2,")),
+    ("the masks are of the free pointers",
+     FOUR_NUMBERS, FOUR_NUMBERS.replace("in_use(on_counters)", "(1 << counters) - 1 ^ in_use(on_counters)").replace(
+         "in_use(on_plain)", "(1 << MOST_ENTRIES) - (1 << counters) ^ in_use(on_plain)")),
+    ("a used-up entry's pointer is not in use",
+     MASK, MASK.replace("in listed", "in [entry.pointer for entry in entries if entry.priority != ERASABLE]")),
+    ("counter positions are in use only if used up",
+     FOUR_NUMBERS, FOUR_NUMBERS.replace(
+         "in_use(on_counters)", "in_use([entry for entry in on_counters if entry.priority == ERASABLE])")),
+    ("plain positions are in use only if used up",
+     FOUR_NUMBERS, FOUR_NUMBERS.replace(
+         "in_use(on_plain)", "in_use([entry for entry in on_plain if entry.priority == ERASABLE])")),
+
+    # Q-8: how many entries have priority 15
+    ("entries of priority 14 are counted",
+     USED_UP, USED_UP.replace("ERASABLE", "14")),
+    ("entries of priority 14 and 15 are counted",
+     USED_UP, USED_UP.replace("== ERASABLE", ">= 14")),
+    ("entries of all priorities from 12 on are counted",
+     USED_UP, USED_UP.replace("== ERASABLE", "> LAST_USABLE")),
+    ("entries of other priorities than 15 are counted",
+     USED_UP, USED_UP.replace("== ERASABLE", "!= ERASABLE")),
+    ("all entries are counted as used up",
+     USED_UP, "len(entries)"),
+    ("entries of key 15 are counted",
+     USED_UP, USED_UP.replace("priority", "key")),
+    ("entries of type 15 are counted",
+     USED_UP, USED_UP.replace("priority", "kind")),
+    ("whether any entry is used up is given",
+     USED_UP, f"min({USED_UP}, 1)"),
+    ("which pointers are used up is given",
+     USED_UP, "in_use([entry for entry in entries if entry.priority == ERASABLE])"),
+    ("an entry with a network is not counted as used up",
+     USED_UP, USED_UP.replace("== ERASABLE", "== ERASABLE and entry.bitmap & 1 == 0")),
+    ("the first entry is not counted",
+     SIDES, "    entries = entries[1:]\n" + SIDES),
+    ("the last entry is not counted",
+     SIDES, "    entries = entries[:-1]\n" + SIDES),
+    ("of eight used-up entries none is counted",
+     USED_UP, f"{USED_UP} % 8"),
+
+    # Q-8: the four numbers
+    ("the masks are exchanged",
+     FOUR_NUMBERS, "Tally(in_use(on_plain), in_use(on_counters), used_up(on_counters), used_up(on_plain))"),
+    ("the numbers of used-up entries are exchanged",
+     FOUR_NUMBERS, "Tally(in_use(on_counters), in_use(on_plain), used_up(on_plain), used_up(on_counters))"),
+    ("the numbers of used-up entries stand before the masks",
+     FOUR_NUMBERS, "Tally(used_up(on_counters), used_up(on_plain), in_use(on_counters), in_use(on_plain))"),
+    ("both counter numbers stand before both plain ones",
+     FOUR_NUMBERS, "Tally(in_use(on_counters), used_up(on_counters), in_use(on_plain), used_up(on_plain))"),
+    ("the tally that is read is zeros",
+     READ_TALLY, "[0] * 4"),
+    ("the tally stands before the entries",
+     READ_TALLY, "[]", "    return numbers + []", "    return numbers",
+     "    return read_contract_list(record, positions, counters)\n",
+     """    numbers = read_contract_list(record, positions, counters)
+    return list(tally(contract_entries(numbers), counters)) + numbers
+""", "    return [write_contract_list(numbers, positions, counters)]\n",
+     "    return [write_contract_list(numbers[4:] + numbers[:4], positions, counters)]\n"),
+
+    # Q-8: the tally of a value that is written
+    ("the tally is not compared",
+     CHECK_LIST, CHECK_LIST.replace("    require_tally(numbers, counters)\n", "")),
+    ("the used counter pointers are not compared",
+     *without_number(0)),
+    ("the used plain pointers are not compared",
+     *without_number(1)),
+    ("the used-up entries on counter positions are not compared",
+     *without_number(2)),
+    ("the used-up entries on plain positions are not compared",
+     *without_number(3)),
+    ("the masks are not compared",
+     *without_number(0, 1)),
+    ("the numbers of used-up entries are not compared",
+     *without_number(2, 3)),
+    ("the masks are compared together",
+     OTHER_TALLY, """given, fresh = numbers[-4:], tally(contract_entries(numbers), counters)
+    if (given[0] | given[1], *given[2:]) != (fresh[0] | fresh[1], *fresh[2:]):
+"""),
+    ("the numbers of used-up entries are compared together",
+     OTHER_TALLY, """given, fresh = numbers[-4:], tally(contract_entries(numbers), counters)
+    if (*given[:2], given[2] + given[3]) != (*fresh[:2], fresh[2] + fresh[3]):
+"""),
+    ("of the tally's numbers the low eight bits are compared",
+     *each_number("given % 256 != fresh")),
+    ("of the tally's numbers the low sixteen bits are compared",
+     *each_number("given % 65536 != fresh")),
+    ("of the tally's numbers the low thirty-one bits are compared",
+     *each_number("given % (1 << 31) != fresh")),
+    ("a tally may be too low",
+     *each_number("given > fresh")),
+    ("a tally may be too high",
+     *each_number("given < fresh")),
+    ("a tally of zeros is let through",
+     OTHER_TALLY, OTHER_TALLY.replace("if ", "if any(numbers[-4:]) and ")),
+    ("the tally of an empty list is not compared",
+     OTHER_TALLY, OTHER_TALLY.replace("if ", "if numbers[0] and ")),
+    ("the tally for any C is let through",
+     OTHER_TALLY, """if all(Tally(*numbers[-4:]) != tally(contract_entries(numbers), any_counters)
+           for any_counters in range(MOST_COUNTERS + 1)):
+"""),
+
+    # Q-8: its refusal
+    ("the tally's refusal has place 1",
+     TALLY_REFUSED, TALLY_REFUSED.replace("6", "6, 1")),
+    ("the tally's refusal has the count as place",
+     TALLY_REFUSED, TALLY_REFUSED.replace("6", "6, numbers[0]")),
+    ("the tally's refusal has the place behind the last entry",
+     TALLY_REFUSED, TALLY_REFUSED.replace("6", "6, numbers[0] + 1")),
+    ("the tally's refusal has place 9",
+     TALLY_REFUSED, TALLY_REFUSED.replace("6", "6, MOST_ENTRIES + 1")),
+    ("the tally's refusal names a field",
+     TALLY_REFUSED, TALLY_REFUSED.replace("6", "6, 0, 33")),
+    ("the tally's refusal names the first field",
+     TALLY_REFUSED, TALLY_REFUSED.replace("6", "6, 0, 1")),
+    ("the tally's refusal is 7",
+     TALLY_REFUSED, TALLY_REFUSED.replace("6", "7")),
+    ("the tally's refusal is 11",
+     TALLY_REFUSED, TALLY_REFUSED.replace("6", "11")),
+    ("the tally is compared before the list rule",
+     CHECK_LIST, "".join(reversed(CHECK_LIST.splitlines(keepends=True)))),
+    ("the tally is compared before 2",
+     *tally_before(2)),
+    ("the tally is compared before 4",
+     *tally_before(4)),
+    ("the tally is compared before 7",
+     *tally_before(7)),
+    ("the tally of all eight entries, counted or not, is compared before the walk",
+     WRITE_LIST, """    if Tally(*numbers[-4:]) != tally(contract_entries((MOST_ENTRIES, *numbers[1:])), counters):
+        raise Refused(6)
+""" + WRITE_LIST),
+    ("the tally is compared before N and C",
+     "    require(card_limits(positions, counters))\n    return [write_contract_list(",
+     """    if numbers[0] <= MOST_ENTRIES:
+        require_tally(numbers, counters)
+    require(card_limits(positions, counters))
+    return [write_contract_list("""),
+    ("the tally is compared before the length",
+     """    require_lengths((record, RECORD))
+    require(card_limits(positions, counters))
+    return [write_contract_list(""",
+     """    if numbers[0] <= MOST_ENTRIES:
+        require_tally(numbers, counters)
+    require_lengths((record, RECORD))
+    require(card_limits(positions, counters))
+    return [write_contract_list("""),
+    ("a number of the tally too wide for a byte is 7",
+     OTHER_TALLY, "if max(numbers[-4:]) > 255:\n        raise Refused(7)\n    " + OTHER_TALLY),
+    ("the entries are written though the tally is wrong",
+     CHECK_LIST + "    return written\n",
+     """    require_contract_list_rule(numbers, positions)
+    try:
+        require_tally(numbers, counters)
+    except Refused as refused:
+        refused.written = written
+        raise
+    return written
+""",
+     "+ operation.refused(*lent)\n",
+     "+ ([refused.written] if hasattr(refused, 'written') else operation.refused(*lent))\n"),
+    ("the masks are written in the last byte",
+     CHECK_LIST + "    return written\n",
+     CHECK_LIST + "    return written[:-1] + bytes([written[-1] | numbers[-4] | numbers[-3]])\n"),
+
+    # Q-8: the tally kept by a change of priority
+    ("a change of priority leaves the tally",
+     *kept_by_change(more="False", less="False")),
+    ("a change to 15 is not counted",
+     *kept_by_change(more="False")),
+    ("a change from 15 is not counted",
+     *kept_by_change(less="False")),
+    ("a change from 15 to 15 counts one more",
+     *kept_by_change(less="old.priority == ERASABLE != code")),
+    ("a change from 15 to 15 counts one less",
+     *kept_by_change(more="code == ERASABLE != old.priority")),
+    ("each change is counted on the counter side",
+     *kept_by_change(side="True")),
+    ("each change is counted on the plain side",
+     *kept_by_change(side="False")),
+    ("a change is counted on the other side",
+     *kept_by_change(side="old.pointer > counters")),
+    ("the entry's position, not its pointer, has the side of a change",
+     *kept_by_change(side="position <= counters")),
+    ("a change to 14 is counted as one to 15",
+     *kept_by_change(more="code >= 14")),
+
+    # Q-8: the tally kept by loading
+    ("the removed entry stays counted",
+     *kept_by_loading(removed="old[mask] &= ~bit")),
+    ("the removed entry is taken off though nothing was removed",
+     *kept_by_loading(counted="old[count] += (priority == ERASABLE) - (len(kept) == len(entries))")),
+    ("the new entry is not counted",
+     *kept_by_loading(counted="pass")),
+    ("the new entry is counted as used up, whatever its priority",
+     *kept_by_loading(counted="old[count] += 1")),
+    ("the new entry's pointer is not in use",
+     *kept_by_loading(appended="pass")),
+    ("the new entry's pointer is added though it is in use",
+     *kept_by_loading(removed="old[count] -= 1", appended="old[mask] += bit")),
+    ("the new entry is counted on the other side",
+     *kept_by_loading(side="pointer > counters")),
+    ("the new entry is counted where a counter is needed",
+     *kept_by_loading(side="needs_counter")),
+    ("the tally of the old list goes with the new one",
+     *kept_by_loading(removed="pass", appended="pass", counted="pass")),
+
+    # Q-8: loading by the tally
+    ("the highest free pointer is taken",
+     FREE, FREE.replace("in pointers", "in reversed(pointers)")),
+    ("the pointer behind as many as are in use is taken for free",
+     FREE, "free = [pointer for pointer in pointers if pointer == pointers.start + len(set(pointers) & set(listed))]"),
+    ("the pointer behind the highest in use is taken for free",
+     FREE, "free = [pointer for pointer in pointers if all(pointer > other for other in set(pointers) & set(listed))]"),
+    ("a pointer is free if the other side's mask says so",
+     FREE, "free = [pointer for pointer in pointers if pointer not in set(listed) - set(pointers)]"),
+    ("free pointers are looked for up to 8",
+     "plain_pointers = range(counters + 1, positions + 1)",
+     "plain_pointers = range(counters + 1, MOST_ENTRIES + 1)"),
+    ("no counter position is taken while a plain entry is used up, blocked or not",
+     *without_going_on("used_up_entries.plain_erasable")),
+    ("no counter position is taken while any entry is used up, blocked or not",
+     *without_going_on("used_up_entries.plain_erasable or used_up_entries.counter_erasable")),
+    ("no counter position is taken if none is used up, free or not",
+     *without_going_on("not used_up_entries.counter_erasable")),
+    ("a single used-up entry is taken though it is blocked",
+     " and entry.pointer not in blocked and entry.pointer in pointers]",
+     " and entry.pointer in pointers and (entry.pointer not in blocked or used_up(\n"
+     "                    [other for other in entries if other.pointer in pointers]) == 1)]"),
+
+    # Q-8: C where it changes nothing
+    ("selection passes over plain positions",
+     "if eligible(entry, part(file, entry.pointer), day, operator):",
+     "if entry.pointer <= counters and eligible(entry, part(file, entry.pointer), day, operator):"),
+    ("selection passes over counter positions",
+     "if eligible(entry, part(file, entry.pointer), day, operator):",
+     "if entry.pointer > counters and eligible(entry, part(file, entry.pointer), day, operator):"),
+    ("among equals a counter position goes first",
+     "best is None or entry.priority < best[1].priority:",
+     "best is None or (entry.priority, entry.pointer > counters) < (best[1].priority, best[1].pointer > counters):"),
+    ("the priority of plain entries stays",
+     "._replace(priority=code)",
+     "._replace(priority=code if entries[position - 1].pointer <= counters else entries[position - 1].priority)"),
+    ("a position is counted among the entries on counter positions",
+     "    require(position <= len(entries))\n",
+     "    require(position <= (len([entry for entry in entries if entry.pointer <= counters]) or len(entries)))\n"),
+
+    # Q-8: as words
+    *[(f"{call}: C stands before N", f"def {name}, positions, counters", f"def {name}, counters, positions")
+      for call, name in (("reading a list", "list_read(record"), ("writing a list", "list_write(record"),
+                         ("selection", "select(contract_list, file"),
+                         ("change of priority", "change_priority(contract_list"))],
+    ("selection: C stands last",
+     "select(contract_list, file, positions, counters, day, operator)",
+     "select(contract_list, file, positions, day, operator, counters)"),
+    ("change of priority: C stands last",
+     "change_priority(contract_list, positions, counters, position, code)",
+     "change_priority(contract_list, positions, position, code, counters)"),
+    ("a line without C is taken, and C is 4",
+     "    if len(words) != len(kinds):\n",
+     """    at = {b"list.read": 2, b"list.write": 2, b"select": 3, b"priority": 2}.get(name)
+    if at and len(words) == len(kinds) - 1:
+        words.insert(at, b"4")
+    if len(words) != len(kinds):
+"""),
+    ("a list without its tally is taken, as one of zeros",
+     "    if len(words) != len(kinds):\n",
+     """    if name == b"list.write" and len(words) == len(kinds) - 4:
+        words += [b"0"] * 4
+    if len(words) != len(kinds):
+"""),
+    ("the special event list takes C, too",
+     "    if len(words) != len(kinds):\n",
+     """    if name in (b"special.read", b"special.write") and len(words) == len(kinds) + 1:
+        words.pop(2)
+    if len(words) != len(kinds):
+"""),
+    ("a number of the tally above 255 is a bad line",
+     "[NUMBER] * 2 + [NUMBER] * 53", "[NUMBER] * 2 + [NUMBER] * 49 + [LETTER] * 4"),
 ]
 
 UNCHANGED = "nothing", "LONGEST_LINE = 8192", "LONGEST_LINE = 8192"

@@ -1,7 +1,7 @@
 """Requests that read and write one record or Holder area."""
 
-from draw import (ENVIRONMENT, EVENT, both, contract, contract_list, draw, drawn_record, flipped, holder, list_entries,
-                  list_fixed, noise, read, record, special_entries, special_fixed, special_list, write)
+from draw import (ENVIRONMENT, EVENT, both, contract, contract_list, counters_for, draw, drawn_record, flipped, holder,
+                  list_entries, list_fixed, noise, read, record, special_entries, special_fixed, special_list, write)
 
 LARGEST = 4294967295
 HOLDER_FULL = {"bitmap": 255, "name bitmap": 3, "birth bitmap": 3, "profile count": 4, "data bitmap": 4095,
@@ -78,7 +78,7 @@ def entry_subsets(random):
         for bitmap in range(8):
             entries = [(7, 4), (6, 1), (6, 3), (7, 2)]
             entries[index] = bitmap, entries[index][1]
-            yield from both(random, contract_list(4), list_entries(entries))
+            yield from both(random, contract_list(4, counters_for(4, bitmap)), list_entries(entries))
         for bitmap in range(16):
             entries = [(15, 4), (14, 1), (14, 3), (15, 2)]
             entries[index] = bitmap, entries[index][1]
@@ -113,8 +113,8 @@ def full_values():
     for element in EVENT_ELEMENTS:
         yield EVENT, {"bitmap": 1 << element, "inner bitmap": 31}
     yield special_list(4), special_entries([(15, 3), (15, 1), (15, 4), (15, 2)])
-    yield contract_list(8), list_entries([(7, 5), (7, 8), (7, 1), (7, 3)])
-    yield contract_list(8), list_entries([(6, pointer) for pointer in (4, 3, 8, 7, 1, 2, 5, 6)])
+    yield contract_list(8, 4), list_entries([(7, 5), (7, 8), (7, 1), (7, 3)])
+    yield contract_list(8, 4), list_entries([(6, pointer) for pointer in (4, 3, 8, 7, 1, 2, 5, 6)])
     yield contract(66), {"bitmap": 127, "validity bitmap": 3}
     yield contract(80), {"bitmap": 127, "validity bitmap": 3, "groups": 0}
     for group in range(16):
@@ -180,9 +180,9 @@ def sparse_values():
     yield EVENT, {"bitmap": 1 << 27, "inner bitmap": 0}
     yield special_list(4), {"count": 0}
     yield special_list(3), special_entries([(0, 0), (14, 2), (14, 3)])
-    yield contract_list(8), {"count": 0}
-    yield contract_list(8), list_entries([(6, 2), (0, 0), (7, 1)])
-    yield contract_list(5), list_entries([(6, 2), (6, 4), (6, 5), (6, 1), (6, 3)])
+    yield contract_list(8, 3), {"count": 0}
+    yield contract_list(8, 1), list_entries([(6, 2), (0, 0), (7, 1)])
+    yield contract_list(5, 0), list_entries([(6, 2), (6, 4), (6, 5), (6, 1), (6, 3)])
     yield contract(66), {"bitmap": 0}
     yield contract(66), {"bitmap": 80, "validity bitmap": 0}
     yield contract(80), {"bitmap": 0}
@@ -253,7 +253,8 @@ def list_counts(random):
     for positions in range(1, 9):
         for count in range(16):
             fixed = list_entries([(6, pointer) for pointer in range(1, min(count, 8) + 1)])
-            yield from both(random, contract_list(positions), {**fixed, "count": count})
+            layout = contract_list(positions, counters_for(positions, count))
+            yield from both(random, layout, {**fixed, "count": count})
 
 
 def list_priorities(random):
@@ -261,19 +262,22 @@ def list_priorities(random):
         for priority in range(16):
             fixed = list_fixed(random, 8, count=8)
             tariff = [random.randrange(16), random.randrange(256), priority]
-            yield from both(random, contract_list(8), {**fixed, f"entry {number} tariff": tariff})
+            layout = contract_list(8, counters_for(8, number + priority))
+            yield from both(random, layout, {**fixed, f"entry {number} tariff": tariff})
 
 
 # ---------------------------------------------------------------- List rules
 
 def lists(random):
-    for _ in range(60):
+    for index in range(60):
         positions, specials = random.randint(1, 8), random.randint(0, 4)
-        yield from both(random, contract_list(positions), list_fixed(random, positions))
+        layout = contract_list(positions, counters_for(positions, index))
+        yield from both(random, layout, list_fixed(random, positions))
         yield from both(random, special_list(specials), special_fixed(random, specials))
-    for _ in range(90):
+    for index in range(90):
         entries = broken_entries(random, 8, (4, 5, 6, 6, 6, 7, 2, 0))
-        yield from both(random, contract_list(random.randint(3, 8)), list_entries(entries))
+        positions = random.randint(3, 8)
+        yield from both(random, contract_list(positions, counters_for(positions, index)), list_entries(entries))
         entries = broken_entries(random, 4, (6, 13, 14, 14, 15))
         yield from both(random, special_list(random.randint(1, 4)), special_entries(entries))
     yield from repeated_pointers(random)
@@ -290,7 +294,8 @@ def repeated_pointers(random):
         for later in range(first + 1, 8):
             pointers = random.sample(range(1, 9), 8)
             pointers[later] = pointers[first]
-            yield from both(random, contract_list(8), list_entries([(6, pointer) for pointer in pointers]))
+            entries = [(6, pointer) for pointer in pointers]
+            yield from both(random, contract_list(8, counters_for(8, later)), list_entries(entries))
     for first, later in ((0, 1), (0, 3), (1, 2), (2, 3)):
         pointers = [1, 2, 3, 4]
         pointers[later] = pointers[first]
@@ -300,7 +305,8 @@ def repeated_pointers(random):
 def pointer_limits(random):
     for limit in range(1, 9):
         for pointer in (0, limit, limit + 1, 31):
-            yield from both(random, contract_list(limit), list_entries([(6, pointer)]))
+            layout = contract_list(limit, counters_for(limit, limit // 2 + pointer))
+            yield from both(random, layout, list_entries([(6, pointer)]))
     for limit in range(5):
         for pointer in (0, limit, limit + 1, 31):
             yield from both(random, special_list(limit), special_entries([(14, pointer)]))
@@ -330,7 +336,7 @@ def small_values():
     yield holder(29), {"bitmap": 0}
     yield EVENT, {"bitmap": 0}
     yield special_list(0), {"count": 0}
-    yield contract_list(4), {"count": 0}
+    yield contract_list(4, 2), {"count": 0}
     yield contract(66), {"bitmap": 0}
     yield contract(80), {"bitmap": 64, "groups": 0}
 
@@ -340,7 +346,7 @@ def larger_values(random):
     yield holder(116), HOLDER_FULL
     yield EVENT, {"bitmap": 0b0010_0000_0000_0000_0000_0001_0100}
     yield special_list(4), special_fixed(random, 4, count=4)
-    yield contract_list(8), list_fixed(random, 8, count=7)
+    yield contract_list(8, 4), list_fixed(random, 8, count=7)
     yield contract(66), {"bitmap": 127, "validity bitmap": 3}
     yield contract(80), {"bitmap": 99, "groups": 0xD843}
 
@@ -379,8 +385,8 @@ def lengths(random):
 
 def parameters(random):
     for positions in (0, 1, 2, 8, 9, 10, 255, 256, 257, 2147483648, LARGEST):
-        yield from both(random, contract_list(positions), list_entries([(6, 1)]))
-        yield from both(random, contract_list(positions), {"count": 0})
+        yield from both(random, contract_list(positions, 0), list_entries([(6, 1)]))
+        yield from both(random, contract_list(positions, min(positions, 4)), {"count": 0})
     for specials in (0, 1, 4, 5, 6, 255, 256, 257, 2147483648, LARGEST):
         yield from both(random, special_list(specials), special_entries([(14, 1)]))
         yield from both(random, special_list(specials), {"count": 0})
@@ -393,14 +399,15 @@ def parameters(random):
 
 def any_value(random):
     """A layout that can run past its end, with bitmaps about as large as the record."""
-    layout = random.choice([EVENT, holder(29), holder(58), holder(87), contract(80), contract_list(8)])
+    layout = random.choice([EVENT, holder(29), holder(58), holder(87), contract(80), contract_list(8, 4)])
     if layout is EVENT:
         return layout, {"bitmap": event_bitmap(random, random.randint(8, 18))}
     if layout.name == "holder":
         return layout, {"profile count": 4}
     if layout.name == "contract":
         return layout, {"bitmap": 64 | random.randrange(64), "groups": random.randrange(65536)}
-    return layout, {"count": random.randint(5, 8)}
+    count = random.randint(5, 8)
+    return contract_list(8, count - 4), {"count": count}
 
 
 def exact_ends(random):
@@ -431,7 +438,7 @@ def overfull(random):
     for networks in range(9):
         entries = [(7 if index < networks else 6, index + 1) for index in range(8)]
         for count in range(4, 9):
-            yield from both(random, contract_list(8), list_entries(entries[:count]))
+            yield from both(random, contract_list(8, counters_for(8, networks + count)), list_entries(entries[:count]))
 
 
 def element_17(random):
@@ -448,7 +455,7 @@ def all_layouts(random):
     yield holder(random.choice(HOLDER_AREAS)), {}
     yield EVENT, {"bitmap": event_bitmap(random, random.randint(1, 11))}
     yield special_list(specials), special_fixed(random, specials)
-    yield contract_list(positions), list_fixed(random, positions)
+    yield contract_list(positions, min(positions, specials)), list_fixed(random, positions)
     yield contract(66), {}
     yield contract(80), {"groups": 1 << random.randrange(16) | 1 << random.randrange(16)}
 
@@ -478,13 +485,13 @@ def two_faults_in_a_field(random):
         yield from both(random, holder(29), {**fixed, "work place": code})
     for priority in (12, 13, 16):
         fixed = list_entries([(7, pointer) for pointer in (1, 2, 3, 4, 5)])
-        yield from both(random, contract_list(8), {**fixed, "entry 5 tariff": [1, 66, priority]})
+        yield from both(random, contract_list(8, 4), {**fixed, "entry 5 tariff": [1, 66, priority]})
     for inner in (2, 3, 4, 6, 7):
         yield from both(random, ENVIRONMENT, {"bitmap": 64, "env data bitmap": inner, "card status": 2})
     yield from first_checks(random)
     for place in (230, 231):
-        twice = drawn_record(random, contract_list(4), list_entries([(6, 1), (6, 1)]))
-        yield read(contract_list(4), flipped(twice, place))
+        twice = drawn_record(random, contract_list(4, 1), list_entries([(6, 1), (6, 1)]))
+        yield read(contract_list(4, 1), flipped(twice, place))
         twice = drawn_record(random, special_list(4), special_entries([(14, 1), (14, 1)]))
         yield read(special_list(4), flipped(twice, place))
 
@@ -514,7 +521,7 @@ def too_wide(random, field):
 def first_checks(random):
     for size in (28, 29):
         for limit in (4, 9):
-            for layout in (contract_list(limit), special_list(limit), contract(limit), contract(66)):
+            for layout in (contract_list(limit, 4), special_list(limit), contract(limit), contract(66)):
                 lent = noise(random, size)
                 yield read(layout, lent)
                 words = draw(random, layout, {"bitmap": 0, "count": 17}).words()

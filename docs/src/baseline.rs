@@ -3,7 +3,7 @@
 
 #![no_main]
 
-use cards::{Contract, ContractList, Data, Data42, Data50, Kind, Refusal, read_contract, read_list};
+use cards::{Contract, ContractList, Data, Data42, Data50, Kind, Refusal, Tally, read_contract, read_list};
 use std::io::{self, Read};
 
 struct Digest(u64);
@@ -43,6 +43,8 @@ fn list_digest(list: &ContractList) -> u64 {
     for entry in &list.entries {
         digest.add([entry.bitmap, entry.network, entry.key, entry.kind, entry.priority, entry.pointer]);
     }
+    let Tally { counter, plain } = &list.tally;
+    digest.add([counter.used, plain.used, counter.spent, plain.spent]);
     digest.0
 }
 

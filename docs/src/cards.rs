@@ -1,13 +1,15 @@
-//! The yardstick of `./bench`, a library: reads contract lists (N = 8) and contracts of types 42h and 50h as a careful Rust
-//! programmer would: field by field, each with its rank, its room and its rule, in the order of document 01. A record is copied
-//! once into a buffer with zeros after it; a field is cut out of the 64 bits from its byte on.
+//! The yardstick of `./bench`, a library: reads contract lists (N = 8, C = 4) and contracts of types 42h and 50h as a careful
+//! Rust programmer would: field by field, each with its rank, its room and its rule, in the order of document 01. A record is
+//! copied once into a buffer with zeros after it; a field is cut out of the 64 bits from its byte on.
 
 pub const RECORD: usize = 29;
 const RECORD_BITS: u32 = 232;
 const POSITIONS: usize = 8;
+const COUNTERS: u32 = 4;
 const MARGIN_WORDS: usize = 4;
 const LAST_MINUTE: u32 = 1439;
 const UNDEFINED_PRIORITY: u32 = 13;
+const USED_UP: u32 = 15;
 
 const PAST_THE_END: u32 = 2;
 const OUT_OF_RANGE: u32 = 4;
@@ -111,10 +113,32 @@ pub struct Entry {
     pub pointer: u32,
 }
 
+/// The positions of one kind: bit p - 1 of `used` is set for each pointer p in use, and `spent` entries are used up.
+#[derive(Default)]
+pub struct Positions {
+    pub used: u32,
+    pub spent: u32,
+}
+
+#[derive(Default)]
+pub struct Tally {
+    pub counter: Positions,
+    pub plain: Positions,
+}
+
+impl Tally {
+    fn add(&mut self, entry: &Entry) {
+        let positions = if entry.pointer <= COUNTERS { &mut self.counter } else { &mut self.plain };
+        positions.used |= 1 << entry.pointer >> 1;
+        positions.spent += u32::from(entry.priority == USED_UP);
+    }
+}
+
 #[derive(Default)]
 pub struct ContractList {
     pub count: u32,
     pub entries: [Entry; POSITIONS],
+    pub tally: Tally,
 }
 
 /// Tariff and pointer, which each entry must have.
@@ -137,6 +161,7 @@ pub fn read_list(record: &[u8; RECORD]) -> Result<ContractList, Refusal> {
             broken = number;
         }
         taken |= 1 << entry.pointer;
+        list.tally.add(entry);
     }
     walk.check_rest()?;
     if broken != 0 {

@@ -17,7 +17,7 @@ from draw import (ENVIRONMENT, EVENT, contract, contract_list, draw, holder, lis
 SEED = 1997
 MIXED = 100_000                  # records that both programs read
 FEW = 200                        # units of each other operation
-POSITIONS, SPECIALS = 8, 4       # N and S of every card here; C is 4
+POSITIONS, COUNTERS, SPECIALS = 8, 4, 4    # N, C and S of every card here
 LIST, CONTRACT_42, CONTRACT_50 = READ_BY_BOTH = range(3)
 NAMES = ("list", "42h", "50h", "special list", "Event", "Environment", "Holder")
 KEEP_A_MARGIN = (1, 2, 4, 5, 6)  # the kinds whose values keep what stands after the last field
@@ -73,7 +73,8 @@ def unit(random, kind):
 
 # ---------------------------------------------------------------- Legal records of all sizes
 
-LAYOUT = [contract_list(POSITIONS), contract(0x42), contract(0x50), special_list(SPECIALS), EVENT, ENVIRONMENT, holder(116)]
+LAYOUT = [contract_list(POSITIONS, COUNTERS), contract(0x42), contract(0x50), special_list(SPECIALS), EVENT, ENVIRONMENT,
+          holder(116)]
 
 HEAD_BITS = [8, 16, 32, 8, 2, 8, 62]      # [4] without its dates; [6] as far as the groups of 50h
 GROUP_BITS = [sum(width for _, width, _ in group) for group in model.GROUPS_50]

@@ -7,6 +7,7 @@ use contract::Data50;
 use lists::list::ContractList;
 use lists::list::Entry;
 use lists::list::ListRead;
+use lists::tally::Tally;
 use records::Refusal;
 use rows::margin::Margin;
 use std::num::wrapping_add_u64;
@@ -35,7 +36,8 @@ pub fn of_list(read: ListRead) -> u64 {
     if read.refusal.number != 0 {
         return d;
     }
-    with_entries(d, read.list)
+    let tally = read.list.tally;
+    with_tally(with_entries(d, read.list), tally)
 }
 
 fn with_entries(d: u64, list: ContractList) -> u64 {
@@ -58,6 +60,15 @@ fn with_entry(d: u64, e: Entry) -> u64 {
     let d = with(d, e.kind);
     let d = with(d, e.priority);
     with(d, e.pointer)
+}
+
+fn with_tally(d: u64, tally: Tally) -> u64 {
+    let counter = tally.counter;
+    let plain = tally.plain;
+    let d = with(d, counter.used);
+    let d = with(d, plain.used);
+    let d = with(d, counter.spent);
+    with(d, plain.spent)
 }
 
 pub fn of_contract(read: ContractRead) -> u64 {

@@ -28,7 +28,7 @@ pub fn answer(unit: &[u8]) -> u64
     let lent = &unit[1..];
     let what = unit[0];
     if what == 0 {
-        return digest::of_list(list::read(lent, N));
+        return digest::of_list(list::read(lent, N, C));
     }
     if what <= 2 {
         let kind = if what == 1 {
@@ -91,11 +91,11 @@ fn holder_read(lent: &[u8]) -> u64 {
 // Each of the next reads a record and, where it is accepted, writes it again; the digest is that of the writing.
 fn list_again(lent: &[u8]) -> u64 {
     let mut out = [0u8; 29];
-    let read = list::read(lent, N);
+    let read = list::read(lent, N, C);
     if read.refusal.number != 0 {
         return digest::of(read.refusal, 0);
     }
-    let refusal = list::write(&mut out, N, read.list);
+    let refusal = list::write(&mut out, N, C, read.list);
     digest::of(refusal, one(out[3]))
 }
 
@@ -159,7 +159,7 @@ fn select(lent: &[u8]) -> u64 {
     }
     let day = two(lent[261], lent[262]);
     let operator = one(lent[263]);
-    let chosen = selection::select(&lent[0..29], &lent[29..261], N, day, operator);
+    let chosen = selection::select(&lent[0..29], &lent[29..261], N, C, day, operator);
     digest::of(chosen.refusal, chosen.pointer)
 }
 
@@ -207,7 +207,7 @@ fn load_and_select(lent: &[u8]) -> u64 {
         &lent[444..476],
         order,
     );
-    let chosen = selection::select(&list, &file, N, order.day, order.key);
+    let chosen = selection::select(&list, &file, N, C, order.day, order.key);
     digest::of(chosen.refusal, chosen.pointer)
 }
 

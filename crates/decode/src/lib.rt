@@ -1,4 +1,4 @@
-// Decodes contract list records to standard output: a line of 58 digits each, for cards of four contracts.
+// Decodes contract list records to standard output: a line of 58 digits each, for cards of four contracts, each with a counter.
 ghost use Prim.Native.Nat.{_≤_, _<_};
 ghost use lib.ListN.{length};
 use libc::STDOUT_FILENO;
@@ -8,6 +8,11 @@ use lists::list::Entry;
 
 // The most input that is taken.
 pub const MOST: usize = 64000;
+
+// How many contract records a card has, and counter positions among them.
+const N: u32 = 4;
+
+const C: u32 = 4;
 
 // One answer for each line; for too long an input, one line that says so.
 pub fn dump(input: &[u8]) {
@@ -51,7 +56,7 @@ fn line_end(input: &[u8], from: usize) -> usize
 fn dump_line(line: &[u8], number: u32) {
     let mut bytes = [0u8; 29];
     if text::bytes(line, &mut bytes) {
-        let read = list::read(&bytes, 4);
+        let read = list::read(&bytes, N, C);
         let refusal = read.refusal;
         let list = read.list;
         say_line(number, refusal.number, list.count);

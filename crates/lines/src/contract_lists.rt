@@ -5,6 +5,8 @@ use crate::scan::Scan;
 use lists::list;
 use lists::list::ContractList;
 use lists::list::Entry;
+use lists::tally::Positions;
+use lists::tally::Tally;
 
 struct Given {
     value: ContractList,
@@ -16,12 +18,18 @@ struct GivenEntry {
     last: Scan,
 }
 
+struct GivenTally {
+    value: Tally,
+    last: Scan,
+}
+
 pub fn read(line: &[u8], from: Scan, record: &[u8], out: &mut [u8]) -> usize {
     let contracts = scan::number(line, from);
-    if !scan::ends(line, contracts) {
+    let counters = scan::number(line, contracts);
+    if !scan::ends(line, counters) {
         return 0;
     }
-    let read = list::read(record, contracts.number);
+    let read = list::read(record, contracts.number, counters.number);
     let refusal = read.refusal;
     let list = read.list;
     let end = answer::refusal(out, refusal);
@@ -43,16 +51,23 @@ fn answer_list(out: &mut [u8], end: usize, list: ContractList) -> usize {
         );
         i += 1;
     }
-    last
+    let counter = list.tally.counter;
+    let plain = list.tally.plain;
+    answer::numbers(
+        out,
+        last,
+        &[counter.used, plain.used, counter.spent, plain.spent],
+    )
 }
 
 pub fn write(line: &[u8], from: Scan, record: &mut [u8], out: &mut [u8]) -> usize {
     let contracts = scan::number(line, from);
-    let given = take_list(line, contracts);
+    let counters = scan::number(line, contracts);
+    let given = take_list(line, counters);
     if !scan::ends(line, given.last) {
         return 0;
     }
-    let refusal = list::write(record, contracts.number, given.value);
+    let refusal = list::write(record, contracts.number, counters.number, given.value);
     answer::written(out, refusal, record)
 }
 
@@ -66,6 +81,7 @@ fn take_list(line: &[u8], from: Scan) -> Given {
     let sixth = take_entry(line, fifth.last);
     let seventh = take_entry(line, sixth.last);
     let eighth = take_entry(line, seventh.last);
+    let counts = take_tally(line, eighth.last);
     let e0 = first.value;
     let e1 = second.value;
     let e2 = third.value;
@@ -74,11 +90,13 @@ fn take_list(line: &[u8], from: Scan) -> Given {
     let e5 = sixth.value;
     let e6 = seventh.value;
     let e7 = eighth.value;
-    let last = eighth.last;
+    let tally = counts.value;
+    let last = counts.last;
     Given {
         value: ContractList {
             count: count.number,
             entries: [e0, e1, e2, e3, e4, e5, e6, e7],
+            tally,
         },
         last,
     }
@@ -101,5 +119,25 @@ fn take_entry(line: &[u8], from: Scan) -> GivenEntry {
             pointer: pointer.number,
         },
         last: pointer,
+    }
+}
+
+fn take_tally(line: &[u8], from: Scan) -> GivenTally {
+    let counter_used = scan::number(line, from);
+    let plain_used = scan::number(line, counter_used);
+    let counter_spent = scan::number(line, plain_used);
+    let plain_spent = scan::number(line, counter_spent);
+    GivenTally {
+        value: Tally {
+            counter: Positions {
+                used: counter_used.number,
+                spent: counter_spent.number,
+            },
+            plain: Positions {
+                used: plain_used.number,
+                spent: plain_spent.number,
+            },
+        },
+        last: plain_spent,
     }
 }

@@ -55,7 +55,7 @@ among-more q p (m ∷ ps) = go (eqb m q) (among-more q p ps)
     go false rest = rest
 
 -- Half of a number has its bits but the last.
-half : (u q : ℕ) → u / 2 ^ suc q ≡ u / 2 / 2 ^ q
+pub half : (u q : ℕ) → u / 2 ^ suc q ≡ u / 2 / 2 ^ q
 half u q = let up : 1 + q ≡ suc q = omega arith in sym (rw up at (shr-shr u 1 q))
 
 -- A number less one of its bits: it has that bit's worth, and its other bits are as they were.

@@ -21,7 +21,7 @@ use Rattle.records.proofs.Coming.{ComesTo, fine, faulty}
 use Rattle.lists.proofs.Judging.{take-map}
 use Rattle.lists.specs.Listing.{column, obeying, readList}
 use Rattle.lists.specs.Rules.{keeps, faultAfter}
-use Rattle.lists.specs.List.{listOf, gotList, noList, listFault, outside, listRead}
+use Rattle.lists.specs.List.{entriesOf, listOf, gotList, noList, listFault, outside, listRead}
 use Rattle.lists.specs.Entries.{counted, without}
 use Rattle.lists.specs.declared.list.Entry.{Entry}
 use Rattle.lists.specs.declared.list.ContractList.{ContractList}
@@ -74,31 +74,31 @@ fault-none full limit before (b ∷ bs) (p ∷ ps) (fills, f) (low, high, new, a
     rw (eq-eqb _ _ fills, le-leb _ _ low, le-leb _ _ high, new) (fault-none full limit (before ++ (p ∷ [])) bs ps f a)
 
 -- A contract list that was read.
-pub record WasRead (n : ℕ) (bytes : List ℕ) (l : ContractList) : Type 0 where
+pub record WasRead (n c : ℕ) (bytes : List ℕ) (l : ContractList) : Type 0 where
   pub vals : List ℕ
   pub end : ℕ
   pub slots : readBare (contractList n) (spread 8 bytes) ≡ done vals end
-  pub value : listOf vals ≡ l
-  pub limits : outside n ≡ false
+  pub value : listOf c vals ≡ l
+  pub limits : outside n c ≡ false
   pub long : length bytes ≡ 29
   pub obeys : listFault n vals ≡ 0
 
-pub list-was-read : (n : ℕ) (bytes : List ℕ) (l : ContractList) → listRead n bytes ≡ gotList l → WasRead n bytes l
+pub list-was-read : (n c : ℕ) (bytes : List ℕ) (l : ContractList) → listRead n c bytes ≡ gotList l → WasRead n c bytes l
 unfolding readList
-list-was-read n bytes l = go (eqb (length bytes) 29) refl (outside n) refl (readBare (contractList n) (spread 8 bytes)) refl
+list-was-read n c bytes l = go (eqb (length bytes) 29) refl (outside n c) refl (readBare (contractList n) (spread 8 bytes)) refl
   where
     apart : (r : ListRead) → r ≡ gotList l → r .refusal .number ≡ 0
     apart r h = ap (λ (x : ListRead). x .refusal .number) h
 
     kept : (vals : List ℕ) (end : ℕ) (t : Bool) → eqb (listFault n vals) 0 ≡ t
-        → answered (λ xs. gotList (listOf xs)) noList (pick t (done vals end) (refused 6 (listFault n vals) 0)) ≡ gotList l
-        → (listFault n vals ≡ 0) × (listOf vals ≡ l)
+        → answered (λ xs. gotList (listOf c xs)) noList (pick t (done vals end) (refused 6 (listFault n vals) 0)) ≡ gotList l
+        → (listFault n vals ≡ 0) × (listOf c vals ≡ l)
     kept vals end true e h = (eqb-true _ _ e, ap (λ (x : ListRead). x .list) h)
     kept vals end false e h = absurd (let six : _≡_ {A = ℕ} 6 0 = apart _ h in omega arith)
 
-    go : (b : Bool) → eqb (length bytes) 29 ≡ b → (out : Bool) → outside n ≡ out → (o : Outcome (List ℕ)) → readBare (contractList n) (spread 8 bytes) ≡ o
-        → pick b (pick out (noList (refusal 11 0)) (answered (λ xs. gotList (listOf xs)) noList (andThen o (λ vals end. obeying (listFault n vals) vals end)))) (noList (refusal 1 0)) ≡ gotList l
-        → WasRead n bytes l
+    go : (b : Bool) → eqb (length bytes) 29 ≡ b → (out : Bool) → outside n c ≡ out → (o : Outcome (List ℕ)) → readBare (contractList n) (spread 8 bytes) ≡ o
+        → pick b (pick out (noList (refusal 11 0)) (answered (λ xs. gotList (listOf c xs)) noList (andThen o (λ vals end. obeying (listFault n vals) vals end)))) (noList (refusal 1 0)) ≡ gotList l
+        → WasRead n c bytes l
     go true w false i (done vals end) r h =
         let (obeys, value) = kept vals end (eqb (listFault n vals) 0) refl h in
         record { vals = vals; end = end; slots = r; value = value; limits = i; long = eqb-true _ _ w; obeys = obeys }
@@ -107,8 +107,8 @@ list-was-read n bytes l = go (eqb (length bytes) 29) refl (outside n) refl (read
     go false w out i o r h = absurd (let one : _≡_ {A = ℕ} 1 0 = apart _ h in omega arith)
 
 -- A reading without a refusal gave a list.
-pub list-got : (n : ℕ) (bytes : List ℕ) → listRead n bytes .refusal .number ≡ 0 → listRead n bytes ≡ gotList (listRead n bytes .list)
-list-got n bytes = go (list-comes n bytes)
+pub list-got : (n c : ℕ) (bytes : List ℕ) → listRead n c bytes .refusal .number ≡ 0 → listRead n c bytes ≡ gotList (listRead n c bytes .list)
+list-got n c bytes = go (list-comes n c bytes)
   where
     go : {ns : List ℕ} {r : ListRead} → ComesTo gotList noList ns r → r .refusal .number ≡ 0 → r ≡ gotList (r .list)
     go (fine l) z = refl
@@ -129,6 +129,14 @@ neither : (a b : Bool) → a || b ≡ false → (a ≡ false) × (b ≡ false)
 neither true b h = absurd (true≢false h)
 neither false b h = (refl, h)
 
+-- The limits of n and c.
+pub inside-limits : (n c : ℕ) → outside n c ≡ false → ((1 ≤ n) × (n ≤ 8)) × (c ≤ n)
+inside-limits n c inside =
+    let (rest, among) = neither _ _ inside in
+    let (room, few) = neither _ _ rest in
+    let (low, high) = neither _ _ room in
+    ((ltb-false _ _ low, ltb-false _ _ high), ltb-false _ _ among)
+
 -- No entry of the slots is at fault.
 pub columns-kept : (n : ℕ) (vals : List ℕ) → listFault n vals ≡ 0
     → Full 3 (take (getD vals 0 0) (column 8 6 1 vals)) × Apart n [] (take (getD vals 0 0) (column 8 6 6 vals))
@@ -139,23 +147,24 @@ columns-kept n vals obeys =
     none-at-fault 3 n [] (take count (column 8 6 1 vals)) (take count (column 8 6 6 vals)) as-many obeys
 
 -- The counted entries of a list that was read keep the rule.
-pub record Kept (n : ℕ) (l : ContractList) : Type 0 where
+pub record Kept (n c : ℕ) (l : ContractList) : Type 0 where
   pub room : (1 ≤ n) × (n ≤ 8)
+  pub counters : c ≤ n
   pub eight : length (l .entries) ≡ 8
   pub full : Full 3 (map (λ (e : Entry). e .bitmap) (counted l))
   pub apart : Apart n [] (map (λ (e : Entry). e .pointer) (counted l))
 
-pub list-kept : (n : ℕ) (bytes : List ℕ) (l : ContractList) → listRead n bytes ≡ gotList l → Kept n l
-list-kept n bytes l h = let w = list-was-read n bytes l h in rw (← w .value) (kept (w .vals) (w .limits) (w .obeys))
+pub list-kept : (n c : ℕ) (bytes : List ℕ) (l : ContractList) → listRead n c bytes ≡ gotList l → Kept n c l
+list-kept n c bytes l h = let w = list-was-read n c bytes l h in rw (← w .value) (kept (w .vals) (w .limits) (w .obeys))
   where
-    kept : (vals : List ℕ) → outside n ≡ false → listFault n vals ≡ 0 → Kept n (listOf vals)
+    kept : (vals : List ℕ) → outside n c ≡ false → listFault n vals ≡ 0 → Kept n c (listOf c vals)
     kept vals inside obeys =
         let count : ℕ = getD vals 0 0 in
-        let bitmaps : take count (column 8 6 1 vals) ≡ map (λ (e : Entry). e .bitmap) (counted (listOf vals)) = take-map _ count (listOf vals .entries) in
-        let pointers : take count (column 8 6 6 vals) ≡ map (λ (e : Entry). e .pointer) (counted (listOf vals)) = take-map _ count (listOf vals .entries) in
+        let bitmaps : take count (column 8 6 1 vals) ≡ map (λ (e : Entry). e .bitmap) (counted (listOf c vals)) = take-map _ count (entriesOf vals) in
+        let pointers : take count (column 8 6 6 vals) ≡ map (λ (e : Entry). e .pointer) (counted (listOf c vals)) = take-map _ count (entriesOf vals) in
         let rule = columns-kept n vals obeys in
-        let (low, high) = neither (ltb n 1) (ltb 8 n) inside in
-        record { room = (ltb-false _ _ low, ltb-false _ _ high); eight = refl; full = rw bitmaps at (rule .0); apart = rw pointers at (rule .1) }
+        let limits = inside-limits n c inside in
+        record { room = limits .0; counters = limits .1; eight = refl; full = rw bitmaps at (rule .0); apart = rw pointers at (rule .1) }
 
 -- How many of the pointers from 1 to k are not among some.
 abbrev vacant : ℕ → List ℕ → ℕ

@@ -1,8 +1,10 @@
 pub mod Judging
+pub mod Tallying
 pub mod Listing
 pub mod Entries
 pub mod Relisting
 pub mod Kept
+pub mod Fairness
 pub mod Recoding
 pub mod Coming
 pub mod Rowing

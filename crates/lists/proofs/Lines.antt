@@ -29,14 +29,18 @@ use Rattle.rows.proofs.Tables.{list-rows}
 use Rattle.records.specs.inner.Met.{met}
 use Rattle.records.proofs.Inverse.{named-all}
 use Rattle.records.proofs.Answering.{all-words}
-use Rattle.lists.specs.List.{entryNumbers, entryOf, numbersOf, listOf, outside, listFault, gotList, noList, listRead}
+use Rattle.lists.specs.List.{entryNumbers, entryOf, numbersOf, listOf, outside, listFault, gotList, noTally, noList, listRead}
+use Rattle.lists.specs.Tally.{tallyOf, entered, atPointer}
 use Rattle.lists.specs.inner.Steps.{obeyed, EntryTook, RestTook, EntryGave}
 use Rattle.lists.specs.inner.Judging.{Judges}
 use Rattle.lists.specs.declared.list.Entry.{Entry}
 use Rattle.lists.specs.declared.list.ContractList.{ContractList}
 use Rattle.lists.specs.declared.rules.Judged.{Judged}
+use Rattle.lists.specs.declared.tally.Tally.{Tally}
 use Rattle.lists.proofs.Rowing.{rowsFrom, rows-split, rows-more, flat, flat-append, seen-long, seen-more}
 use Rattle.lists.proofs.Judging.{Turned, judges-more}
+use Rattle.lists.proofs.Tallying.{tally-none, tally-entered}
+use Rattle.lists.proofs.Kept.{inside-limits}
 use Rattle.lists.proofs.list.Laws.{bitmaps, pointers, fault-list, list-of-numbers}
 use Rattle.lists.proofs.Listing.{list-read, list-refused}
 
@@ -141,14 +145,6 @@ rest-took words c marks v ready full clear room reads defined =
           (rw (behind, count-twice (c .field)) (admitted-there between 5 refl (omega arith)));
     }
 
-pub limit-few : (n : ℕ) → outside n ≡ false → n ≤ 8
-limit-few n = go (ltb n 1) (ltb 8 n) refl
-  where
-    go : (a b : Bool) → ltb 8 n ≡ b → a || b ≡ false → n ≤ 8
-    go true b e h = let z : _≡_ {A = ℕ} 0 1 = cc in absurd (omega arith)
-    go false true e h = let z : _≡_ {A = ℕ} 0 1 = cc in absurd (omega arith)
-    go false false e h = ltb-false 8 n e
-
 -- The whole table: the count's row, some entries' and the others'.
 whole-rows : (n k : ℕ) → k ≤ 8 → contractList n ≡ (boxMost n 4 always ∷ rowsFrom entry 0 k) ++ rowsFrom entry k (8 - k)
 unfolding contractList
@@ -157,28 +153,28 @@ whole-rows n k few =
     let here : 0 + k ≡ k = omega arith in
     ap (λ (rs : List Row). boxMost n 4 always ∷ rs) (rw (all, here) at (rows-split entry 0 k (8 - k)))
 
-module _ (bytes : List ℕ) (n : ℕ) (words : List ℕ)
+module _ (bytes : List ℕ) (n counters : ℕ) (words : List ℕ)
     (whole : length bytes ≡ 29)
-    (inside : outside n ≡ false)
+    (inside : outside n counters ≡ false)
     (cuts : words ≡ cut 32 64 8 (spread 8 bytes)) where
   -- A refusal at the count or in an entry is the answer.
   pub line-refused : (k : ℕ) (all : List ℕ) (d : Cursor) → k ≤ 8
       → Takes words 232 (boxMost n 4 always ∷ rowsFrom entry 0 k) [] start all d
       → Ready words 232 d
       → (d .why ≡ 0 → ⊥)
-      → noList (met d) ≡ listRead n bytes
+      → noList (met d) ≡ listRead n counters bytes
   line-refused k all d few line ready why =
       let taken : Taken words 232 (contractList n) [] start all d =
       record { takes = rw (whole-rows n k few) (takes-append line (stopped ready why (rowsFrom entry k (8 - k)) all)); ready = ready } in
-      list-refused (λ vals. gotList (listOf vals)) noList (listFault n) (outside n) (contractList n) bytes words all d d d (omega (arith, list-rows n)) whole inside cuts taken
+      list-refused (λ vals. gotList (listOf counters vals)) noList (listFault n) (outside n counters) (contractList n) bytes words all d d d (omega (arith, list-rows n)) whole inside cuts taken
       (ended-refused words 232 d why)
       (rw (ne-eqb _ _ why))
       why
 
--- What the reader's loop has come to before entry k: the entries so far taken and judged, the others as at the start.
-pub record Sofar (bytes : List ℕ) (n : ℕ) (words : List ℕ) (count : ℕ) (l : ContractList) (j : Judged) (c : Cursor) (k : ℕ) : Type 0 where
+-- What the reader's loop has come to before entry k: the entries so far taken, tallied and judged, the others as at the start.
+pub record Sofar (bytes : List ℕ) (n counters : ℕ) (words : List ℕ) (count : ℕ) (l : ContractList) (t : Tally) (j : Judged) (c : Cursor) (k : ℕ) : Type 0 where
   pub whole : length bytes ≡ 29
-  pub inside : outside n ≡ false
+  pub inside : outside n counters ≡ false
   pub cuts : words ≡ cut 32 64 8 (spread 8 bytes)
   pub few : count ≤ 8
   pub upto : k ≤ count
@@ -188,21 +184,22 @@ pub record Sofar (bytes : List ℕ) (n : ℕ) (words : List ℕ) (count : ℕ) (
   pub ready : Ready words 232 c
   pub takes : Takes words 232 (boxMost n 4 always ∷ rowsFrom entry 0 k) [] start (count ∷ flat entryNumbers (take k (l .entries))) c
   pub others : drop k (l .entries) ≡ replicate (8 - k) none
+  pub tallies : t ≡ tallyOf counters (take k (l .entries))
   pub judges : Judges 3 n (bitmaps (take k (l .entries))) (pointers (take k (l .entries))) j
 
-pub sofar-start : (bytes : List ℕ) (n : ℕ) (words : List ℕ) (j : Judged) (head : Cursor)
+pub sofar-start : (bytes : List ℕ) (n counters : ℕ) (words : List ℕ) (j : Judged) (head : Cursor)
     → length bytes ≡ 29
-    → outside n ≡ false
+    → outside n counters ≡ false
     → words ≡ cut 32 64 8 (spread 8 bytes)
     → Took words 232 start Always (4 ∷ []) (Most n) (head .number ∷ []) head
     → head .why ≡ 0
     → ((full : ℕ) → Judges full n [] [] j)
-    → Sofar bytes n words (head .number) (record { count = head .number; entries = replicate 8 none }) j head 0
-sofar-start bytes n words j head whole inside cuts took clear judges =
+    → Sofar bytes n counters words (head .number) (record { count = head .number; entries = replicate 8 none; tally = noTally }) noTally j head 0
+sofar-start bytes n counters words j head whole inside cuts took clear judges =
     let long : length (spread 8 bytes) ≡ 232 = rw (length-spread 8 bytes, whole) in
     let most : head .number ≤ n =
     took-most words 232 start head 4 n (spread 8 bytes) long (all-words bytes words cuts) refl (omega arith) clear took in
-    let limit : n ≤ 8 = limit-few n inside in
+    let limit : n ≤ 8 = inside-limits n counters inside .0 .1 in
     record {
       whole = whole;
       inside = inside;
@@ -215,10 +212,11 @@ sofar-start bytes n words j head whole inside cuts took clear judges =
       ready = took .ready;
       takes = took ▸ taken;
       others = refl;
+      tallies = sym (tally-none counters);
       judges = judges 3;
     }
 
-module _ {bytes : List ℕ} {n : ℕ} {words : List ℕ} {count : ℕ} {l : ContractList} {j : Judged} {c : Cursor} {k : ℕ} (so : Sofar bytes n words count l j c k) where
+module _ {bytes : List ℕ} {n counters : ℕ} {words : List ℕ} {count : ℕ} {l : ContractList} {t : Tally} {j : Judged} {c : Cursor} {k : ℕ} (so : Sofar bytes n counters words count l t j c k) where
   few-taken : k ≤ 8
   few-taken = omega (arith, so .few, so .upto)
 
@@ -236,17 +234,18 @@ module _ {bytes : List ℕ} {n : ℕ} {words : List ℕ} {count : ℕ} {l : Cont
       → EntryTook words (entry k) (1 + 6 * k) count c (entryNumbers e) d
       → k < count
       → (d .why ≡ 0 → ⊥)
-      → noList (met d) ≡ listRead n bytes
+      → noList (met d) ≡ listRead n counters bytes
   sofar-refused e d took more why =
-      line-refused bytes n words (so .whole) (so .inside) (so .cuts) (k + 1) _ d (omega (arith, so .few)) (more-taken e d took) (took .ready) why
+      line-refused bytes n counters words (so .whole) (so .inside) (so .cuts) (k + 1) _ d (omega (arith, so .few)) (more-taken e d took) (took .ready) why
 
-  pub sofar-more : (e : Entry) (d : Cursor) (i : Judged)
+  pub sofar-more : (e : Entry) (d : Cursor) (u : Tally) (i : Judged)
       → EntryTook words (entry k) (1 + 6 * k) count c (entryNumbers e) d
       → k < count
       → d .why ≡ 0
+      → u ≡ atPointer counters (e .pointer) (entered (e .pointer) (e .priority)) t
       → Turned 3 j (k + 1) (e .bitmap) (e .pointer) i
-      → Sofar bytes n words count (record { count = l .count; entries = set (l .entries) k e }) i d (k + 1)
-  sofar-more e d i took more clear turned =
+      → Sofar bytes n counters words count (record { count = l .count; entries = set (l .entries) k e; tally = l .tally }) u i d (k + 1)
+  sofar-more e d u i took more clear counted turned =
       let inside : k < length (l .entries) = omega (arith, so .few, so .eight) in
       let long : length (take k (l .entries)) ≡ k = length-take-le k (l .entries) (omega arith) in
       let next : take (k + 1) (set (l .entries) k e) ≡ take k (l .entries) ++ (e ∷ []) = rw (add-one k) (take-suc-set (l .entries) k e inside) in
@@ -267,6 +266,7 @@ module _ {bytes : List ℕ} {n : ℕ} {words : List ℕ} {count : ℕ} {l : Cont
             drop-set-lt (k + 1) (l .entries) k e (omega arith)
             ∙ sym (drop-drop 1 k (l .entries))
             ∙ rw (so .others, less);
+        tallies = counted ∙ rw (so .tallies, next) (tally-entered counters (take k (l .entries)) e (omega (arith, so .few)));
         judges = rw next (judges-more _ _ 3 n (take k (l .entries)) e (k + 1) (omega arith) (so .judges) turned);
       }
 
@@ -295,15 +295,16 @@ module _ {bytes : List ℕ} {n : ℕ} {words : List ℕ} {count : ℕ} {l : Cont
         so .judges .fault ∙ rw all (fault-list n l (so .eight))
 
     module _ (e f : Cursor) (ended : Ended words 232 c e) (ruled : f ≡ obeyed e (j .fault)) where
-      pub sofar-read : f .why ≡ 0 → gotList l ≡ listRead n bytes
+      pub sofar-read : f .why ≡ 0 → gotList (record { count = l .count; entries = l .entries; tally = t }) ≡ listRead n counters bytes
       sofar-read ok =
-          ap gotList (sym (list-of-numbers l (so .eight)))
-          ∙ list-read (λ vals. gotList (listOf vals)) noList (listFault n) (outside n) (contractList n) bytes words (numbersOf l) (skipped .last) e f
+          let all : k ≡ l .count = omega (arith, so .upto, so .counts) in
+          ap gotList (sym (list-of-numbers counters (record { count = l .count; entries = l .entries; tally = t }) (so .eight) (rw all at (so .tallies))))
+          ∙ list-read (λ vals. gotList (listOf counters vals)) noList (listFault n) (outside n counters) (contractList n) bytes words (numbersOf l) (skipped .last) e f
           (omega (arith, list-rows n)) (so .whole) (so .inside) (so .cuts) sofar-taken (skips-ended e skipped (so .clear) ended) (ruled ∙ rw sofar-fault) ok
 
-      pub sofar-denied : (f .why ≡ 0 → ⊥) → noList (met f) ≡ listRead n bytes
+      pub sofar-denied : (f .why ≡ 0 → ⊥) → noList (met f) ≡ listRead n counters bytes
       sofar-denied why =
-          list-refused (λ vals. gotList (listOf vals)) noList (listFault n) (outside n) (contractList n) bytes words (numbersOf l) (skipped .last) e f
+          list-refused (λ vals. gotList (listOf counters vals)) noList (listFault n) (outside n counters) (contractList n) bytes words (numbersOf l) (skipped .last) e f
           (omega (arith, list-rows n)) (so .whole) (so .inside) (so .cuts) sofar-taken (skips-ended e skipped (so .clear) ended) (ruled ∙ rw sofar-fault) why
 
 -- What the writer's loop has come to before entry k, the count put before it.

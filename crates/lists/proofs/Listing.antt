@@ -1,8 +1,9 @@
 -- Laws that both lists share: the line of an entry's takes or puts, and from the line of a whole list to the answer.
 use Prim.Native.Nat.{ℕ, suc, _-_, _^_, _<_}
 use mathlib.Core.List.{List, [], _∷_, _++_, map, append-assoc}
-use mathlib.Core.Bool.{Bool, true, false}
+use mathlib.Core.Bool.{Bool, true, false, not, _||_}
 use mathlib.Core.Path.{_≡_, refl, sym, ap, _∙_}
+use native.Mathlib.Omega.{arith}
 use lib.Dec.{eqb}
 use lib.ListN.{length, getD, take, drop, length-append, length-map}
 use lib.Seq.{getD-at, drop-drop, drop-append-seam, take-append-seam}
@@ -21,7 +22,8 @@ use Rattle.records.specs.Answer.{refusal, denied, written, answered}
 use Rattle.records.specs.inner.Met.{met}
 use Rattle.records.proofs.Answering.{all-words, packed-answer}
 use Rattle.lists.specs.Listing.{obeying, readList, writeList}
-use Rattle.lists.specs.inner.Steps.{obeyed}
+use Rattle.lists.specs.List.{fairly}
+use Rattle.lists.specs.inner.Steps.{obeyed, tallied}
 use Rattle.records.specs.declared.Refusal.{Refusal}
 
 -- The length of an array of structs, which the checker knows of a list mapped from it.
@@ -79,7 +81,27 @@ obeys-tells fault c a = go (eqb (c .why) 0) refl (eqb (fault a) 0) refl
     go true e false h = rw h
     go false e t h = rw e
 
--- It only refuses.
+-- The tally after that, of an answer and of a cursor.
+fair-tells : (is-fair : Bool) (before : List ℕ) (c : Cursor) (bits : List Bool)
+    → fairly is-fair before (written before (tells c bits)) ≡ written before (tells (tallied c is-fair) bits)
+fair-tells is-fair before c bits = go (eqb (c .why) 0) refl is-fair
+  where
+    go : (b : Bool) → eqb (c .why) 0 ≡ b → (f : Bool)
+        → fairly f before (written before (pick b (done bits (c .at)) (refused (c .why) (c .at) (c .field - 1))))
+        ≡ written before (tells (pick (f || not b) c (record { at = 0; why = 6; field = 0; number = 0 })) bits)
+    go true e true = rw e
+    go true e false = refl
+    go false e true = rw e
+    go false e false = rw e
+
+-- Both only refuse.
+tallied-clear : (c : Cursor) (f : Bool) → tallied c f .why ≡ 0 → c .why ≡ 0
+tallied-clear c f = go (f || not (eqb (c .why) 0))
+  where
+    go : (b : Bool) → pick b c (record { at = 0; why = 6; field = 0; number = 0 }) .why ≡ 0 → c .why ≡ 0
+    go true ok = ok
+    go false ok = absurd (omega arith)
+
 obeyed-clear : (c : Cursor) (k : ℕ) → obeyed c k .why ≡ 0 → c .why ≡ 0
 obeyed-clear c k = go (eqb (c .why) 0) refl
   where
@@ -128,15 +150,19 @@ module _ (fault : List ℕ → ℕ) (outside : Bool) (rows : List Row) (vals bef
   unfolding writeList
   list-unwritten-outside whole out = rw (eq-eqb _ _ whole, out)
 
-  module _ (xs all ys after : List ℕ) (d f : Cursor)
+  -- These stand before the tally is looked at.
+  pub fairly-unwritten : (is-fair : Bool) (r : Refusal) → eqb (r .number) 0 ≡ false → denied r before ≡ writeList fault outside rows vals before
+      → denied r before ≡ fairly is-fair before (writeList fault outside rows vals before)
+  fairly-unwritten is-fair r some e = rw (← e, some)
+
+  module _ (xs all ys : List ℕ) (d f : Cursor)
       (few : length rows < 2 ^ 32)
       (whole : length before ≡ 29)
       (inside : outside ≡ false)
       (sized : length vals ≡ slots rows)
       (empty : xs ≡ cut 32 32 (length xs) [])
       (puts : Puts 232 vals rows [] xs start all ys d)
-      (ruled : f ≡ obeyed d (fault vals))
-      (packed : Packed ys f before after) where
+      (ruled : f ≡ obeyed d (fault vals)) where
     bits : List Bool
     bits = laidOn [] (frame rows vals) vals
 
@@ -148,11 +174,19 @@ module _ (fault : List ℕ → ℕ) (outside : Bool) (rows : List Row) (vals bef
         (puts-bare 232 rows vals xs ys d (puts-walk 232 rows vals xs all ys d few sized empty puts))
         ∙ ap (written before) (obeys-tells (λ bs. fault vals) d (bits ++ zeros (232 - d .at))))
 
-    pub list-written : record { answer = met f; bytes = after } ≡ writeList fault outside rows vals before
+    drawn : f .why ≡ 0 → ys ≡ cut 32 32 (length xs) (bits ++ zeros (232 - d .at))
     unfolding bits
-    list-written =
-        let w = puts-walk 232 rows vals xs all ys d few sized empty puts in
+    drawn ok =
+        puts-walk 232 rows vals xs all ys d few sized empty puts .drawn (obeyed-clear d (fault vals) (rw ruled at ok))
+        ∙ sym (cut-pad 32 32 (length xs) (232 - d .at) bits)
+
+    pub list-written : {after : List ℕ} → Packed ys f before after → record { answer = met f; bytes = after } ≡ writeList fault outside rows vals before
+    list-written packed = sym (says-written ∙ packed-answer xs ys before _ f (bits ++ zeros (232 - d .at)) packed drawn)
+
+    pub list-tallied : {after : List ℕ} (is-fair : Bool) (g : Cursor) → g ≡ tallied f is-fair → Packed ys g before after
+        → record { answer = met g; bytes = after } ≡ fairly is-fair before (writeList fault outside rows vals before)
+    list-tallied is-fair g last packed =
         sym
-        (says-written
-        ∙ packed-answer xs ys before after f (bits ++ zeros (232 - d .at)) packed
-        (λ ok. w .drawn (obeyed-clear d (fault vals) (rw ruled at ok)) ∙ sym (cut-pad 32 32 (length xs) (232 - d .at) bits)))
+        (ap (fairly is-fair before) says-written
+        ∙ fair-tells is-fair before f (bits ++ zeros (232 - d .at))
+        ∙ rw (← last) (packed-answer xs ys before _ g (bits ++ zeros (232 - d .at)) packed (λ ok. drawn (tallied-clear f is-fair (rw last at ok)))))

@@ -17,14 +17,15 @@ use Rattle.rows.proofs.Sound.{Sound, fieldsOn, verdict, read-sound, sound-writt
 use Rattle.rows.proofs.RoundTrip.{bare-read, bare-slots}
 use Rattle.bits.specs.Bits.{odd, spread}
 use Rattle.records.proofs.Inverse.{from-all}
-use Rattle.lists.specs.List.{entryOf, entryAt, numbersOf, gotList, listFault, listRead, listWritten}
+use Rattle.lists.specs.List.{entryOf, entryAt, numbersOf, gotList, outside, listFault, listRead, listWritten}
 use Rattle.lists.specs.Listing.{column, obeying, writeList}
 use Rattle.lists.specs.Rules.{faultAfter}
 use Rattle.records.specs.Answer.{refusal, refusalAt, written}
 use Rattle.lists.specs.Entries.{counted, listing, without, entriesFields, listFields, listBits, overfull}
 use Rattle.lists.specs.declared.list.Entry.{Entry}
 use Rattle.lists.specs.declared.list.ContractList.{ContractList}
-use Rattle.lists.proofs.Entries.{named-get, length-counted, counted-listing}
+use Rattle.lists.proofs.list.Laws.{Fair, fairly-right}
+use Rattle.lists.proofs.Entries.{named-get, length-counted, counted-filled}
 use Rattle.lists.proofs.Recoding.{slots-list}
 use Rattle.lists.proofs.Judging.{take-map}
 use Rattle.lists.proofs.Kept.{Full, Apart, full-at, fault-none, list-was-read, list-kept}
@@ -114,10 +115,10 @@ good-append [] e g own = (own, tt)
 good-append (x ∷ es) e g own = (g .0, good-append es e (g .1) own)
 
 -- The entries of a list that was read are good.
-pub read-good : (n : ℕ) (bytes : List ℕ) (l : ContractList) → listRead n bytes ≡ gotList l → AllGood (counted l)
-read-good n bytes l h =
-    let w = list-was-read n bytes l h in
-    let kept = list-kept n bytes l h in
+pub read-good : (n c : ℕ) (bytes : List ℕ) (l : ContractList) → listRead n c bytes ≡ gotList l → AllGood (counted l)
+read-good n c bytes l h =
+    let w = list-was-read n c bytes l h in
+    let kept = list-kept n c bytes l h in
     let all : numbersOf l ≡ w .vals = sym (ap numbersOf (w .value)) ∙ from-all 49 (w .vals) (bare-slots (contractList n) (spread 8 bytes) (w .slots) ∙ slots-list n) in
     let sound : Sound (contractList n) [] (numbersOf l) =
     subst (λ (vals : List ℕ). Sound (contractList n) [] vals) (sym all) (read-sound (contractList n) (spread 8 bytes) (bare-read (contractList n) (spread 8 bytes) (w .slots))) in
@@ -174,9 +175,9 @@ own-fields es k (suc m) good h = go (ltb k (length es)) refl (own-fields es (suc
         (suc (suc (suc (suc z))), rw (zero, drop-of-length-le es past, rest, drop-of-length-le es past′))
 
 -- The fields of a list of good entries are those of its table, up to the entries that are not counted.
-table-fields : (n : ℕ) (es : List Entry) → AllGood es → length es ≤ 8 → Padded (fieldsOn (contractList n) [] (numbersOf (listing es))) (listFields es)
+table-fields : (n c : ℕ) (es : List Entry) → AllGood es → length es ≤ 8 → Padded (fieldsOn (contractList n) [] (numbersOf (listing c es))) (listFields es)
 unfolding contractList
-table-fields n es good few =
+table-fields n c es good few =
     let (z, rest) = own-fields es 0 8 good (omega arith) in
     (z, ap (λ (ws : List ℕ). 4 ∷ ws) rest)
 
@@ -195,24 +196,24 @@ same-past answer all ws (z, same) = rw (same, total-behind ws z) (go (leb (total
         let behind = past-behind 232 ws z 0 0 (omega arith) (omega arith) in
         rw (behind .0, behind .1)
 
-module _ (n : ℕ) (es : List Entry) (good : AllGood es) (apart : Apart n [] (map (λ (e : Entry). e .pointer) es)) (few : length es ≤ n) (most : n ≤ 8) where
+module _ (n c : ℕ) (es : List Entry) (good : AllGood es) (apart : Apart n [] (map (λ (e : Entry). e .pointer) es)) (few : length es ≤ n) (most : n ≤ 8) where
   -- A list of good entries with pointers of their own keeps the rule,
-  keeps-rule : listFault n (numbersOf (listing es)) ≡ 0
+  keeps-rule : listFault n (numbersOf (listing c es)) ≡ 0
   keeps-rule =
-      let same = counted-listing es (omega arith) in
-      let bitmaps : take (length es) (column 8 6 1 (numbersOf (listing es))) ≡ map (λ (e : Entry). e .bitmap) es =
-      take-map (λ (e : Entry). e .bitmap) (length es) (listing es .entries) ∙ ap (map (λ (e : Entry). e .bitmap)) same in
-      let pointers : take (length es) (column 8 6 6 (numbersOf (listing es))) ≡ map (λ (e : Entry). e .pointer) es =
-      take-map (λ (e : Entry). e .pointer) (length es) (listing es .entries) ∙ ap (map (λ (e : Entry). e .pointer)) same in
-      ap (λ (l : List ℕ). faultAfter 3 n [] l (take (length es) (column 8 6 6 (numbersOf (listing es))))) bitmaps
+      let same = counted-filled es (omega arith) in
+      let bitmaps : take (length es) (column 8 6 1 (numbersOf (listing c es))) ≡ map (λ (e : Entry). e .bitmap) es =
+      take-map (λ (e : Entry). e .bitmap) (length es) (listing c es .entries) ∙ ap (map (λ (e : Entry). e .bitmap)) same in
+      let pointers : take (length es) (column 8 6 6 (numbersOf (listing c es))) ≡ map (λ (e : Entry). e .pointer) es =
+      take-map (λ (e : Entry). e .pointer) (length es) (listing c es .entries) ∙ ap (map (λ (e : Entry). e .pointer)) same in
+      ap (λ (l : List ℕ). faultAfter 3 n [] l (take (length es) (column 8 6 6 (numbersOf (listing c es))))) bitmaps
       ∙ ap (λ (l : List ℕ). faultAfter 3 n [] (map (λ (e : Entry). e .bitmap) es) l) pointers
       ∙ fault-none 3 n [] (map (λ (e : Entry). e .bitmap) es) (map (λ (e : Entry). e .pointer) es) (full-map es good) apart
 
   -- is sound,
-  is-sound : Sound (contractList n) [] (numbersOf (listing es))
+  is-sound : Sound (contractList n) [] (numbersOf (listing c es))
   is-sound =
       let low : length es < 2 ^ 4 = omega arith in
-      sound-list n (listing es) (rw (lt-ltb _ _ low)) (rw (le-ltb n (length es) few)) each
+      sound-list n (listing c es) (rw (lt-ltb _ _ low)) (rw (le-ltb n (length es) few)) each
     where
       at : (k : ℕ) (t : Bool) → ltb k (length es) ≡ t → EntrySound (length es) k (getD es k (entryOf [] 0))
       at k true e = let h : k < length es = ltb-true _ _ e in good-sound (length es) k _ h (good-at es k (entryOf [] 0) good h)
@@ -220,17 +221,20 @@ module _ (n : ℕ) (es : List Entry) (good : AllGood es) (apart : Apart n [] (ma
           let h : length es ≤ k = ltb-false _ _ e in
           rw (List·getD-eq-default es (entryOf [] 0) h) (none-sound (length es) k h)
 
-      each : (k : ℕ) → k < 8 → EntrySound (length es) k (entryAt (listing es) k)
+      each : (k : ℕ) → k < 8 → EntrySound (length es) k (entryAt (listing c es) k)
       each k h = let same : 0 + k ≡ k = omega arith in rw (named-get (entryOf [] 0) 0 8 k es h, same) (at k (ltb k (length es)) refl)
 
   -- and so is written where its bits are within the record, and else refused with 2, at the first field that ends past it.
-  pub written-or-two : (before : List ℕ) → length before ≡ 29 → 1 ≤ n
-      → listWritten n (listing es) before .answer ≡ pick (leb (listBits es) 232) (refusal 0 0) (overfull es)
+  pub written-or-two : (before : List ℕ) → length before ≡ 29 → outside n c ≡ false
+      → listWritten n c (listing c es) before .answer ≡ pick (leb (listBits es) 232) (refusal 0 0) (overfull es)
   unfolding writeList
-  written-or-two before long low =
-      let sound = sound-written refusalAt (contractList n) 232 (numbersOf (listing es)) is-sound in
-      rw (eq-eqb _ _ long, le-ltb _ _ low, le-ltb _ _ most, keeps-rule)
-      (go (writeBare (contractList n) 232 (numbersOf (listing es))) ∙ sound ∙ same-past refusalAt _ (listFields es) (table-fields n es good (omega arith)))
+  written-or-two before long inside =
+      let sound = sound-written refusalAt (contractList n) 232 (numbersOf (listing c es)) is-sound in
+      let even : Fair c (listing c es) = rw (counted-filled es (omega arith)) in
+      let plain : listWritten n c (listing c es) before ≡ writeList (listFault n) (outside n c) (contractList n) (numbersOf (listing c es)) before =
+      fairly-right c (listing c es) before _ even in
+      rw (plain, eq-eqb _ _ long, inside, keeps-rule)
+      (go (writeBare (contractList n) 232 (numbersOf (listing c es))) ∙ sound ∙ same-past refusalAt _ (listFields es) (table-fields n c es good (omega arith)))
     where
       go : (o : Outcome (List Bool)) → written before (andThen o (λ bs end. obeying 0 bs end)) .answer ≡ verdict refusalAt o
       go (done bs end) = refl

@@ -1,7 +1,8 @@
 -- What operations do to a contract list: they speak of its counted entries, in order.
 use Prim.Native.Nat.{ℕ, _+_, _-_, _*_}
 use mathlib.Core.List.{List, [], _∷_, _++_}
-use lib.Dec.{eqb, ltb}
+use mathlib.Core.Bool.{_&&_}
+use lib.Dec.{eqb, ltb, leb}
 use lib.ListN.{length, set, take}
 use Rattle.bits.specs.Bits.{odd}
 use Rattle.rows.specs.Row.{pick}
@@ -11,7 +12,8 @@ use Rattle.rows.specs.table.BestContracts.{contractList}
 use Rattle.records.specs.Answer.{refusalAt, named}
 use Rattle.records.specs.Order.{Attempt, got, stopped}
 use Rattle.records.specs.declared.Refusal.{Refusal}
-use Rattle.lists.specs.List.{entryOf, numbersOf}
+use Rattle.lists.specs.List.{entryOf, entryAt, numbersOf}
+use Rattle.lists.specs.Tally.{usedUp, howMany, tallyOf, entered, removed, revalued, atPointer}
 use Rattle.lists.specs.declared.list.Entry.{Entry}
 use Rattle.lists.specs.declared.list.ContractList.{ContractList}
 use Rattle.lists.specs.declared.list.ListRead.{ListRead}
@@ -20,9 +22,9 @@ use Rattle.lists.specs.declared.list.ListRead.{ListRead}
 abbrev pub counted : ContractList → List Entry
 counted l = take (l .count) (l .entries)
 
--- The list of some entries, at most eight.
-abbrev pub listing : List Entry → ContractList
-listing es = record { count = length es; entries = named (entryOf [] 0) 0 8 es }
+-- The list of some entries, at most eight, with their tally.
+abbrev pub listing : ℕ → List Entry → ContractList
+listing c es = record { count = length es; entries = named (entryOf [] 0) 0 8 es; tally = tallyOf c es }
 
 -- A list that was read, or the refusal.
 abbrev pub attempted : ListRead → Attempt ContractList
@@ -45,9 +47,17 @@ abbrev pub recodedAt : ℕ → ℕ → List Entry → List Entry
 recodedAt position code [] = []
 recodedAt position code (e ∷ es) = pick (eqb position 1) (recoded code e) e ∷ recodedAt (position - 1) code es
 
--- A list with another priority at a position.
-abbrev pub withPriority : ℕ → ℕ → ContractList → ContractList
-withPriority position code l = record { count = l .count; entries = recodedAt position code (l .entries) }
+-- A list with another priority at a position of a counted entry. Another position changes nothing.
+abbrev pub withPriority : ℕ → ℕ → ℕ → ContractList → ContractList
+withPriority c position code l =
+    let old : Entry = entryAt l (position - 1) in
+    pick (leb 1 position && leb position (length (counted l)))
+    (record {
+      count = l .count;
+      entries = recodedAt position code (l .entries);
+      tally = atPointer c (old .pointer) (revalued (old .priority) code) (l .tally);
+    })
+    l
 
 -- Where the four bits of its priority stand in the record: slot 6 × position - 1 of the table.
 abbrev pub priorityPlace : ℕ → ContractList → ℕ → ℕ
@@ -58,10 +68,25 @@ abbrev pub without : ℕ → List Entry → List Entry
 without pointer [] = []
 without pointer (e ∷ es) = pick (eqb (e .pointer) pointer) (without pointer es) (e ∷ without pointer es)
 
+-- A list without any entry of a pointer.
+abbrev pub withoutPointer : ℕ → ℕ → ContractList → ContractList
+withoutPointer c pointer l =
+    record {
+      count = length (without pointer (counted l));
+      entries = named (entryOf [] 0) 0 8 (without pointer (counted l));
+      tally = atPointer c pointer (removed pointer (howMany (λ e. eqb (e .pointer) pointer && usedUp e) (counted l))) (l .tally);
+    }
+
 -- A list with an entry more, behind the others. A full list stays as it is.
-abbrev pub appended : Entry → ContractList → ContractList
-appended e l =
-    pick (ltb (l .count) 8) (record { count = l .count + 1; entries = set (l .entries) (l .count) e }) l
+abbrev pub appended : ℕ → Entry → ContractList → ContractList
+appended c e l =
+    pick (ltb (l .count) 8)
+    (record {
+      count = l .count + 1;
+      entries = set (l .entries) (l .count) e;
+      tally = atPointer c (e .pointer) (entered (e .pointer) (e .priority)) (l .tally);
+    })
+    l
 
 -- The widths of an entry's fields: bitmap, network (0 where the bitmap's element [0] does not mark it), tariff (4, 8 and 4
 -- bits), pointer.

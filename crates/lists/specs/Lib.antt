@@ -1,5 +1,6 @@
 pub mod Rules
 pub mod Listing
+pub mod Tally
 pub mod List
 pub mod Special
 pub mod Entries

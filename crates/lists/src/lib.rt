@@ -2,3 +2,4 @@
 pub mod list;
 mod rules;
 pub mod special;
+pub mod tally;

@@ -7,12 +7,15 @@ ghost use Rattle.rows.specs.inner.Step.{Ready, Drafted};
 ghost use Rattle.rows.specs.inner.Line.{start, Puts};
 ghost use Rattle.rows.specs.table.BestContracts.{entry, contractList};
 ghost use Rattle.lists.specs.inner.Steps.{EntryTook, RestTook, EntryGave};
-ghost use Rattle.lists.specs.List.{entryNumbers, numbersOf, outside, listFault, listRead, listWritten, noList};
-ghost use Rattle.lists.specs.Entries.{counted, listing, withPriority, appended, without};
+ghost use Rattle.bits.specs.Bits.{bit};
+ghost use Rattle.lists.specs.List.{entryNumbers, numbersOf, outside, listFault, listRead, listWritten, noList, fair};
+ghost use Rattle.lists.specs.Entries.{counted, withPriority, appended, withoutPointer};
+ghost use Rattle.lists.specs.Tally.{usedUp, tallyOf, freeOf};
 ghost use Rattle.records.specs.Answer.{Written};
 use crate::rules;
 use crate::rules::COUNT_BITS;
 use crate::rules::Judged;
+use crate::tally::Tally;
 use records::BITS;
 use records::BYTES;
 use records::Refusal;
@@ -32,9 +35,11 @@ pub struct Entry {
     pub pointer: u32,
 }
 
+// The tally is that of the counted entries; a value made by reading and by the methods has it right.
 pub struct ContractList {
     pub count: u32,
     pub entries: [Entry; 8],
+    pub tally: Tally,
 }
 
 pub struct ListRead {
@@ -107,6 +112,16 @@ impl Entry {
         }
     }
 
+    // 1 where it is used up, else 0.
+    fn used_up(self) -> u32
+        ensures { λ r. ⌜ r ≡ bit (usedUp self) ⌝ }
+    {
+        if self.priority == Entry::ERASABLE {
+            return 1;
+        }
+        0
+    }
+
     pub fn with_network(network: u32, key: u32, kind: u32, priority: u32, pointer: u32) -> Entry
         ensures { λ r. ⌜ r ≡ record { bitmap = 7; network = network; key = key; kind = kind; priority = priority; pointer = pointer } ⌝ }
     {
@@ -125,44 +140,54 @@ impl ContractList {
     // The most entries that a list has, and contract records that a card has.
     pub const MOST: u32 = 8;
 
+    // The most counter positions that a card has.
+    pub const MOST_COUNTERS: u32 = 4;
+
     pub const NONE: ContractList = ContractList {
         count: 0,
         entries: [Entry::NONE; 8],
+        tally: Tally::NONE,
     };
 
     // The list with another priority at a position, from 1. A position that there is not changes nothing.
-    pub fn with_priority(mut self, position: u32, code: u32) -> ContractList
-        ensures { λ r. ⌜ r ≡ withPriority position code self ⌝ }
+    pub fn with_priority(mut self, c: u32, position: u32, code: u32) -> ContractList
+        ensures { λ r. ⌜ r ≡ withPriority c position code self ⌝ }
     {
         let k = position as usize;
         if k < 1 {
             return self;
         }
-        if 8 < k {
+        if self.len() < k {
             return self;
         }
+        let old = self.entries[k - 1];
         self.entries[k - 1].priority = code;
+        let tally = self.tally;
+        self.tally = tally.recoded(c, old.pointer, old.priority, code);
         self
     }
 
     // The list with an entry more, behind the others. A full list stays as it is.
-    pub fn with(mut self, entry: Entry) -> ContractList
-        ensures { λ r. ⌜ r ≡ appended entry self ⌝ }
+    pub fn with(mut self, c: u32, entry: Entry) -> ContractList
+        ensures { λ r. ⌜ r ≡ appended c entry self ⌝ }
     {
         let k = self.count as usize;
         if k < 8 {
             self.entries[k] = entry;
             self.count = self.count + 1;
+            let tally = self.tally;
+            self.tally = tally.with(c, entry.pointer, entry.priority);
         }
         self
     }
 
     // The list without any entry of a pointer: the later entries move down, and zeros follow. Both loops stand here, since for a
     // method between them the compiler would copy the list.
-    pub fn without(mut self, pointer: u32) -> ContractList
-        ensures { λ r. ⌜ r ≡ listing (without pointer (counted self)) ⌝ }
+    pub fn without(mut self, c: u32, pointer: u32) -> ContractList
+        ensures { λ r. ⌜ r ≡ withoutPointer c pointer self ⌝ }
     {
         let n = self.len();
+        let mut gone = 0;
         let mut left = 0;
         let mut i = 0;
         while i < n {
@@ -170,15 +195,72 @@ impl ContractList {
             if entry.pointer != pointer {
                 self.entries[left] = entry;
                 left += 1;
+            } else {
+                gone += entry.used_up();
             }
             i += 1;
         }
+        let tally = self.tally;
+        self.tally = tally.without(c, pointer, gone);
         self.count = left as u32;
         while left < 8 {
             self.entries[left] = Entry::NONE;
             left += 1;
         }
         self
+    }
+
+    // A fresh count of the entries.
+    fn recounted(self, c: u32) -> Tally
+        ensures { λ r. ⌜ r ≡ tallyOf c (counted self) ⌝ }
+    {
+        let n = self.len();
+        let mut tally = Tally::NONE;
+        let mut i = 0;
+        while i < n {
+            let entry = self.entries[i];
+            tally = tally.with(c, entry.pointer, entry.priority);
+            i += 1;
+        }
+        tally
+    }
+
+    // Whether the tally is a fresh count.
+    fn is_fair(self, c: u32) -> bool
+        ensures { λ r. ⌜ r ≡ fair c self ⌝ }
+    {
+        let tally = self.tally;
+        tally.equals(self.recounted(c))
+    }
+
+    // How many counter positions are free, on a card with c of them.
+    pub fn free_counters(self, c: u32) -> u32
+        ensures { λ r. ⌜ r ≡ freeOf 0 c (self .tally .counter) ⌝ }
+    {
+        let counter = self.tally.counter;
+        counter.free(0, c)
+    }
+
+    // How many plain positions are free, on a card with n contract records.
+    pub fn free_plain(self, n: u32, c: u32) -> u32
+        ensures { λ r. ⌜ r ≡ freeOf c n (self .tally .plain) ⌝ }
+    {
+        let plain = self.tally.plain;
+        plain.free(c, n)
+    }
+
+    // How many tickets on counter positions are used up.
+    pub fn used_up_counters(self) -> u32
+        ensures { λ r. ⌜ r ≡ self .tally .counter .spent ⌝ }
+    {
+        self.tally.counter.spent
+    }
+
+    // How many on plain ones.
+    pub fn used_up_plain(self) -> u32
+        ensures { λ r. ⌜ r ≡ self .tally .plain .spent ⌝ }
+    {
+        self.tally.plain.spent
     }
 
     // The number of counted entries.
@@ -207,21 +289,21 @@ struct RestTaken {
     last: Cursor,
 }
 
-// Whether n is no number of contract records that a card may have.
-fn outside(n: u32) -> bool
-    ensures { λ r. ⌜ r ≡ outside n ⌝ }
+// Whether n is no number of contract records that a card may have, or c none of counter positions among them.
+fn outside(n: u32, c: u32) -> bool
+    ensures { λ r. ⌜ r ≡ outside n c ⌝ }
 {
-    (n < 1) | (ContractList::MOST < n)
+    (n < 1) | (ContractList::MOST < n) | (ContractList::MOST_COUNTERS < c) | (n < c)
 }
 
-// The contract list in a lent record, on a card with n contract records.
-pub fn read(bytes: &[u8], n: u32) -> ListRead
-    ensures { λ r. ⌜ r ≡ listRead n (now (bytes .entry)) ⌝ }
+// The contract list in a lent record, on a card with n contract records, the first c of them with counters.
+pub fn read(bytes: &[u8], n: u32, c: u32) -> ListRead
+    ensures { λ r. ⌜ r ≡ listRead n c (now (bytes .entry)) ⌝ }
 {
     if bytes.len() != BYTES {
         return refused(Refusal::WRONG_LENGTH);
     }
-    if outside(n) {
+    if outside(n, c) {
         return refused(Refusal::OUTSIDE_LIMITS);
     }
     let mut words = [0u64; 8];
@@ -233,6 +315,7 @@ pub fn read(bytes: &[u8], n: u32) -> ListRead
     let count = head.number;
     let mut list = ContractList::NONE;
     list.count = count;
+    let mut tally = Tally::NONE;
     let mut judged = Judged::start(n);
     let mut last = head;
     let mut k = 0;
@@ -244,6 +327,7 @@ pub fn read(bytes: &[u8], n: u32) -> ListRead
             return refused(Refusal::met(last));
         }
         list.entries[k as usize] = entry;
+        tally = tally.with(c, entry.pointer, entry.priority);
         k += 1;
         judged = judged.with(k, entry.bitmap, entry.pointer, Entry::FULL);
     }
@@ -251,6 +335,7 @@ pub fn read(bytes: &[u8], n: u32) -> ListRead
     if end.why != 0 {
         return refused(Refusal::met(end));
     }
+    list.tally = tally;
     ListRead {
         refusal: Refusal::NONE,
         list,
@@ -361,18 +446,18 @@ fn at_fault(list: ContractList, n: u32) -> u32
 }
 
 // Writes a contract list to a lent record, all of it; refused, the record is as it was.
-pub fn write(bytes: &mut [u8], n: u32, list: ContractList) -> Refusal
-    ensures { λ r. ⌜ record { answer = r; bytes = now (bytes .exit) } ≡ listWritten n list (now (bytes .entry)) ⌝ }
+pub fn write(bytes: &mut [u8], n: u32, c: u32, list: ContractList) -> Refusal
+    ensures { λ r. ⌜ record { answer = r; bytes = now (bytes .exit) } ≡ listWritten n c list (now (bytes .entry)) ⌝ }
 {
     if bytes.len() != BYTES {
         return Refusal::WRONG_LENGTH;
     }
-    if outside(n) {
+    if outside(n, c) {
         return Refusal::OUTSIDE_LIMITS;
     }
     let mut draft = [0u64; 9];
     let end = put_list(&mut draft, n, list);
-    let last = rules::obeyed(end, at_fault(list, n));
+    let last = rules::fair(rules::obeyed(end, at_fault(list, n)), list.is_fair(c));
     put::end(&draft, last, bytes);
     Refusal::met(last)
 }

@@ -4,7 +4,7 @@ ghost use mathlib.Core.List.{List, [], _∷_, _++_};
 ghost use Prim.Native.Nat.{ℕ, suc, _≤_};
 ghost use lib.ListN.{length, take};
 ghost use Rattle.lists.specs.Rules.{firstAtFault};
-ghost use Rattle.lists.specs.inner.Steps.{obeyed};
+ghost use Rattle.lists.specs.inner.Steps.{obeyed, tallied};
 ghost use Rattle.lists.specs.inner.Judging.{Judges};
 use rows::Cursor;
 
@@ -81,6 +81,21 @@ pub fn obeyed(c: Cursor, fault: u32) -> Cursor
     }
     Cursor {
         at: fault,
+        why: 6,
+        field: 0,
+        number: 0,
+    }
+}
+
+// The cursor after the tally: 6 at place 0 where it is no fresh count and nothing else was refused.
+pub fn fair(c: Cursor, is_fair: bool) -> Cursor
+    ensures { λ d. ⌜ d ≡ tallied c «is_fair» ⌝ }
+{
+    if is_fair | (c.why != 0) {
+        return c;
+    }
+    Cursor {
+        at: 0,
         why: 6,
         field: 0,
         number: 0,

@@ -15,7 +15,8 @@ use Rattle.lists.specs.declared.list.Entry.{Entry}
 use Rattle.lists.specs.declared.list.ContractList.{ContractList}
 use Rattle.loading.specs.Blocking.{some}
 use Rattle.loading.specs.Place.{within, erasable, firstErasable}
-use Rattle.loading.specs.inner.Marks.{marked, lowestUnmarked}
+use Rattle.lists.specs.Tally.{bitOf}
+use Rattle.loading.specs.inner.Tallied.{lowestZero}
 
 module _ {A : Type 0} where
   -- The counted ones from i on are number i, where it is counted, and the rest.
@@ -61,9 +62,9 @@ pub erasable-more : (blocked : ℕ → Bool) (first last : ℕ) (l : ContractLis
 erasable-more blocked first last l i d h ok one =
     ap (firstErasable blocked first last) (counted-next l i d h) ∙ rw (← one)
 
-pub lowest-more : (marks : List Bool) (n first i : ℕ) → i < n
-    → lowestUnmarked marks (n - i) (first + i) ≡ pick (marked marks (first + i)) (lowestUnmarked marks (n - (i + 1)) (first + (i + 1))) (first + i)
-lowest-more marks n first i h =
+pub lowest-more : (used n first i : ℕ) → i < n
+    → lowestZero used (n - i) (first + i) ≡ pick (bitOf used (first + i)) (lowestZero used (n - (i + 1)) (first + (i + 1))) (first + i)
+lowest-more used n first i h =
     let more : n - i ≡ suc (n - (i + 1)) = omega arith in
     let on : suc (first + i) ≡ first + (i + 1) = omega arith in
     rw (more, on)

@@ -14,11 +14,13 @@ use Rattle.records.specs.Answer.{refusal}
 use Rattle.records.specs.Order.{Attempt, got, stopped, next, needs}
 use Rattle.records.specs.declared.Refusal.{Refusal}
 use Rattle.lists.specs.List.{gotList, listRead}
-use Rattle.lists.specs.Entries.{counted, listing, without}
+use Rattle.lists.specs.Entries.{counted, listing, without, appended}
 use Rattle.lists.specs.declared.list.Entry.{Entry}
 use Rattle.lists.specs.declared.list.ContractList.{ContractList}
 use Rattle.lists.specs.declared.list.ListRead.{ListRead}
-use Rattle.lists.proofs.Entries.{appended-listing, length-without}
+use Rattle.lists.proofs.list.Laws.{list-fair}
+use Rattle.lists.proofs.Entries.{length-without}
+use Rattle.lists.proofs.Fairness.{without-listing, appended-listing}
 use Rattle.lists.proofs.Kept.{Kept, list-kept, list-got, room-left, room-all}
 use Rattle.contract.specs.Contract.{contractRead}
 use Rattle.contract.specs.declared.Contract.{Contract}
@@ -53,9 +55,9 @@ free-among es p h = sym (same es p) ∙ not-true _ h
     same (e ∷ es) p = ap (λ (t : Bool). eqb (e .pointer) p || t) (same es p)
 
 -- Where the rule names a pointer, there is room for its entry.
-pub room-for : (n : ℕ) (l : ContractList) (blocked : ℕ → Bool) (p : ℕ) → Kept n l → Named blocked n (counted l) p → (p ≡ 0 → ⊥)
+pub room-for : (n c : ℕ) (l : ContractList) (blocked : ℕ → Bool) (p : ℕ) → Kept n c l → Named blocked n (counted l) p → (p ≡ 0 → ⊥)
     → length (without p (counted l)) < n
-room-for n l blocked p kept named other =
+room-for n c l blocked p kept named other =
     let all : length pointers ≡ length (counted l) = length-map (counted l) (λ (e : Entry). e .pointer) in
     let few : length pointers ≤ n = room-all n pointers (kept .apart) in
     ⊎-elim
@@ -145,7 +147,7 @@ module _ (o : Order) (list file : List ℕ) (lent : Lent) where
     unfolding loading finding
     read-all = rw (card .lengths-agree, card .in-limits)
 
-    module _ (r : ListRead) (same : r ≡ listRead (o .n) list) where
+    module _ (r : ListRead) (same : r ≡ listRead (o .n) (o .c) list) where
       refused-list : (r .refusal .number ≡ 0 → ⊥) → loaded (r .refusal) 0 list file ≡ loading o list file lent
       unfolding placing
       refused-list other = rw (read-all, ← same, ne-eqb _ _ other)
@@ -188,11 +190,13 @@ module _ (o : Order) (list file : List ℕ) (lent : Lent) where
               go true z = rw z
               go false z =
                   let other : p ≡ 0 → ⊥ = eqb-false _ _ z in
-                  let read : listRead (o .n) list ≡ gotList (r .list) = sym same ∙ rw (← same) at (list-got (o .n) list (ap (λ (x : ListRead). x .refusal .number) (sym same) ∙ reads)) in
-                  let kept = list-kept (o .n) list (r .list) read in
+                  let read : listRead (o .n) (o .c) list ≡ gotList (r .list) = sym same ∙ rw (← same) at (list-got (o .n) (o .c) list (ap (λ (x : ListRead). x .refusal .number) (sym same) ∙ reads)) in
+                  let kept = list-kept (o .n) (o .c) list (r .list) read in
                   let names = placed-free-or-erasable blocked (o .n) (o .c) (o .counter) (counted (r .list)) (card .counters) in
-                  let room : length (without p (counted (r .list))) < o .n = room-for (o .n) (r .list) blocked p kept (rw (← named) at names) other in
-                  let lists : renewed o (r .list) p ≡ listing (afterwards (newEntry o p) (counted (r .list))) = appended-listing (newEntry o p) (without p (counted (r .list))) (omega (arith, room, card .most)) in
+                  let room : length (without p (counted (r .list))) < o .n = room-for (o .n) (o .c) (r .list) blocked p kept (rw (← named) at names) other in
+                  let left = without-listing (o .c) (r .list) (kept .eight) (list-fair (o .n) (o .c) list (r .list) read) p in
+                  let lists : renewed o (r .list) p ≡ listing (o .c) (afterwards (newEntry o p) (counted (r .list))) =
+                  ap (appended (o .c) (newEntry o p)) left ∙ appended-listing (o .c) (newEntry o p) (without p (counted (r .list))) (omega (arith, room, card .most)) in
                   rw (z, lists)
 
           loads : x .number ≡ 0 → stored o list file (r .list) (lent .new) (place (marked marks) (o .n) (o .c) (o .counter) (counted (r .list))) ≡ loading o list file lent
@@ -215,15 +219,15 @@ module _ (o : Order) (list file : List ℕ) (lent : Lent) where
 
     -- What writing the new contract to its place asks for, where the end is accepted.
     pub accepts : {marks : List Bool} {x : Refusal} (out : Outcome)
-        → out ≡ ended o list file (lent .new) x (marked marks) (listRead (o .n) list)
+        → out ≡ ended o list file (lent .new) x (marked marks) (listRead (o .n) (o .c) list)
         → Marking (restRead o lent) (λ b. b) (replicate 9 false) marks x → out .answer .refusal .number ≡ 0
         → (1 ≤ out .answer .pointer) × (29 * out .answer .pointer ≤ length file) × (length (lent .new) ≡ 29)
         × (refusalOf (contractGot (contractRead (o .kind) (lent .new))) .number ≡ 0)
     accepts {marks} {x} out same m zero =
-        let told = end-accepted o list file (lent .new) x (marked marks) (listRead (o .n) list) out same zero in
+        let told = end-accepted o list file (lent .new) x (marked marks) (listRead (o .n) (o .c) list) out same zero in
         let (blocked, all, same-place) = place-marked (rest-stops o lent) m (told .quiet) in (
           omega (arith, told .some),
-          place-inside o file (marked marks) (counted (listRead (o .n) list .list)) (out .answer .pointer) (card .counters) (card .file-long) (told .named),
+          place-inside o file (marked marks) (counted (listRead (o .n) (o .c) list .list)) (out .answer .pointer) (card .counters) (card .file-long) (told .named),
           card .new-long,
           rest-contract o lent blocked all,
         )

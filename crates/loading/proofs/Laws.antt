@@ -21,7 +21,7 @@ use Rattle.lists.specs.List.{gotList, listRead, listWritten}
 use Rattle.lists.specs.Entries.{counted, listing, attempted, without, listBits, overfull}
 use Rattle.lists.specs.declared.list.Entry.{Entry}
 use Rattle.lists.specs.declared.list.ContractList.{ContractList}
-use Rattle.lists.proofs.Kept.{Apart, list-kept, list-got, one-each, apart-afterwards}
+use Rattle.lists.proofs.Kept.{Apart, list-kept, list-got, one-each, apart-afterwards, list-was-read}
 use Rattle.lists.proofs.Sounding.{Good, made-good, good-without, good-append, read-good, written-or-two}
 use Rattle.lists.proofs.list.Laws.{list-write-read, list-write-comes}
 use Rattle.contract.specs.Contract.{contractRead}
@@ -97,7 +97,7 @@ left-over (x ∷ es) e p (List·Memᴰ·tail there) other = go (eqb (x .pointer)
 pub record AllRead (o : Order) (list file : List ℕ) (lent : Lent) : Type 0 where
   pub card : Card o list file lent
   pub l : ContractList
-  pub reads : listRead (o .n) list ≡ gotList l
+  pub reads : listRead (o .n) (o .c) list ≡ gotList l
   pub blocked : ℕ → Bool
   pub events : blocking o (lent .special) (lent .journal) (lent .records) (lent .codes) ≡ got blocked
   pub new : Contract
@@ -113,13 +113,13 @@ entriesAfter {o} a = afterwards (newEntry o (namedBy a)) (counted (a .l))
 
 -- The writing of the list afterwards.
 abbrev listAfter : {o : Order} {list file : List ℕ} {lent : Lent} → AllRead o list file lent → Written
-listAfter {o} {list} a = listWritten (o .n) (listing (entriesAfter a)) list
+listAfter {o} {list} a = listWritten (o .n) (o .c) (listing (o .c) (entriesAfter a)) list
 
-attempted-got : (n : ℕ) (list : List ℕ) (l : ContractList) → attempted (listRead n list) ≡ got l → listRead n list ≡ gotList l
-attempted-got n list l = go (eqb (listRead n list .refusal .number) 0) refl
+attempted-got : (n c : ℕ) (list : List ℕ) (l : ContractList) → attempted (listRead n c list) ≡ got l → listRead n c list ≡ gotList l
+attempted-got n c list l = go (eqb (listRead n c list .refusal .number) 0) refl
   where
-    go : (t : Bool) → eqb (listRead n list .refusal .number) 0 ≡ t → pick t (got (listRead n list .list)) (stopped (listRead n list .refusal)) ≡ got l → listRead n list ≡ gotList l
-    go true e h = let same : listRead n list .list ≡ l = cc in list-got n list (eqb-true _ _ e) ∙ ap gotList same
+    go : (t : Bool) → eqb (listRead n c list .refusal .number) 0 ≡ t → pick t (got (listRead n c list .list)) (stopped (listRead n c list .refusal)) ≡ got l → listRead n c list ≡ gotList l
+    go true e h = let same : listRead n c list .list ≡ l = cc in list-got n c list (eqb-true _ _ e) ∙ ap gotList same
     go false e h = apart (sym h)
 
 contract-got : (r : ContractRead) (c : Contract) → contractGot r ≡ got c → r ≡ Read c
@@ -136,7 +136,7 @@ finding-ended : (o : Order) (list file : List ℕ) (lent : Lent) → Ended o lis
 unfolding finding placing
 finding-ended o list file lent =
     go (lengths o (lengthsOf list file lent)) refl (limits o (length (lent .journal) / 29)) refl
-    (attempted (listRead (o .n) list)) refl (list-stops (o .n) list)
+    (attempted (listRead (o .n) (o .c) list)) refl (list-stops (o .n) (o .c) list)
     (blocking o (lent .special) (lent .journal) (lent .records) (lent .codes)) refl (blocking-stops o (lent .special) (lent .journal) (lent .records) (lent .codes))
     (contractGot (contractRead (o .kind) (lent .new))) refl (contract-stops (o .kind) (lent .new))
   where
@@ -146,7 +146,7 @@ finding-ended o list file lent =
     named a false e = somewhere a (eqb-false _ _ e)
 
     go : (a : Bool) → lengths o (lengthsOf list file lent) ≡ a → (b : Bool) → limits o (length (lent .journal) / 29) ≡ b
-        → (t : Attempt ContractList) → attempted (listRead (o .n) list) ≡ t → Stops t
+        → (t : Attempt ContractList) → attempted (listRead (o .n) (o .c) list) ≡ t → Stops t
         → (u : Attempt (ℕ → Bool)) → blocking o (lent .special) (lent .journal) (lent .records) (lent .codes) ≡ u → Stops u
         → (w : Attempt Contract) → contractGot (contractRead (o .kind) (lent .new)) ≡ w → Stops w
         → Ended o list file lent
@@ -161,7 +161,7 @@ finding-ended o list file lent =
         record {
           card = unread-none o list file lent (rw (ea, eb));
           l = l;
-          reads = attempted-got (o .n) list l et;
+          reads = attempted-got (o .n) (o .c) list l et;
           blocked = blocked;
           events = eu;
           new = new;
@@ -190,17 +190,17 @@ list-or-two : {o : Order} {list file : List ℕ} {lent : Lent} (a : AllRead o li
 list-or-two {o} {list} a some =
     let p : ℕ = namedBy a in
     let es : List Entry = counted (a .l) in
-    let kept = list-kept (o .n) list (a .l) (a .reads) in
+    let kept = list-kept (o .n) (o .c) list (a .l) (a .reads) in
     let names = placed-free-or-erasable (a .blocked) (o .n) (o .c) (o .counter) es (a .card .counters) in
     let most : p ≤ o .n = names .most in
     let eight : o .n ≤ 8 = a .card .most in
     let low : 1 ≤ p = omega arith in
-    let room : length (without p es) < o .n = room-for (o .n) (a .l) (a .blocked) p kept names some in
+    let room : length (without p es) < o .n = room-for (o .n) (o .c) (a .l) (a .blocked) p kept names some in
     let few : length (afterwards (newEntry o p) es) ≤ o .n = rw (length-append (without p es) (newEntry o p ∷ [])) (omega arith) in
-    let good = good-append (without p es) (newEntry o p) (good-without p es (read-good (o .n) list (a .l) (a .reads))) (new-good o p (a .card .entry-fits) (omega arith)) in
+    let good = good-append (without p es) (newEntry o p) (good-without p es (read-good (o .n) (o .c) list (a .l) (a .reads))) (new-good o p (a .card .entry-fits) (omega arith)) in
     let apart : Apart (o .n) [] (map (λ (e : Entry). e .pointer) (afterwards (newEntry o p) es)) =
     rw (map-append (λ (e : Entry). e .pointer) (without p es) (newEntry o p ∷ [])) (apart-afterwards (o .n) p es low most (kept .apart)) in
-    written-or-two (o .n) (afterwards (newEntry o p) es) good apart few eight list (a .card .list-long) (kept .room .0)
+    written-or-two (o .n) (o .c) (afterwards (newEntry o p) es) good apart few eight list (a .card .list-long) (list-was-read (o .n) (o .c) list (a .l) (a .reads) .limits)
 
 -- And loading answers accordingly.
 answers : (list file : List ℕ) (p : ℕ) (es : List Entry) (w : Written) (later : List ℕ) (fits : Bool) → w .answer ≡ pick fits (refusal 0 0) (overfull es)
@@ -214,7 +214,7 @@ pub record Accepted (o : Order) (list file : List ℕ) (lent : Lent) (out : Outc
   pub all : AllRead o list file lent
   pub named : out .answer .pointer ≡ namedBy all
   pub pointer : out .answer .pointer ≡ 0 → ⊥
-  pub listed : listWritten (o .n) (listing (afterwards (newEntry o (out .answer .pointer)) (counted (all .l)))) list ≡ accepted (out .list)
+  pub listed : listWritten (o .n) (o .c) (listing (o .c) (afterwards (newEntry o (out .answer .pointer)) (counted (all .l)))) list ≡ accepted (out .list)
   pub filed : out .file ≡ placed (out .answer .pointer) (lent .new) file
 
 -- What loading leaves where it is accepted, of a pointer and both buffers; and where it is refused.
@@ -267,7 +267,7 @@ module _ (o : Order) (list file : List ℕ) (lent : Lent) where
           → Accepted o list file lent (pick t (loaded (refusal 0 0) (namedBy a) (w .bytes) (placed (namedBy a) (lent .new) file)) (loaded (w .answer) 0 list file))
       stores a some w e true z h =
           let zero = eqb-true _ _ z in
-          let comes = list-write-comes (o .n) (listing (afterwards (newEntry o (namedBy a)) (counted (a .l)))) list in
+          let comes = list-write-comes (o .n) (o .c) (listing (o .c) (afterwards (newEntry o (namedBy a)) (counted (a .l)))) list in
           let taken : w ≡ accepted (w .bytes) = rw e at (written-taken list comes (rw e zero)) in
           record { all = a; named = refl; pointer = some; listed = e ∙ taken; filed = refl }
       stores a some w e false z h = absurd (eqb-false _ _ z h)
@@ -280,8 +280,8 @@ module _ (o : Order) (list file : List ℕ) (lent : Lent) where
 
   -- The list afterwards reads as the old entries in order, without any of the pointer, then the new one.
   pub list-afterwards : (a : Accepted o list file lent out)
-      → listRead (o .n) (out .list) ≡ gotList (listing (afterwards (newEntry o (out .answer .pointer)) (counted (a .all .l))))
-  list-afterwards a = list-write-read (o .n) list (out .list) _ refl (a .listed)
+      → listRead (o .n) (o .c) (out .list) ≡ gotList (listing (o .c) (afterwards (newEntry o (out .answer .pointer)) (counted (a .all .l))))
+  list-afterwards a = list-write-read (o .n) (o .c) list (out .list) _ refl (a .listed)
 
   inside : (a : Accepted o list file lent out) → 29 * (out .answer .pointer - 1) + 29 ≤ length file
   inside a =
@@ -314,7 +314,7 @@ module _ (o : Order) (list file : List ℕ) (lent : Lent) where
       ⊎-elim
       (λ f. absurd (true≢false (sym (listed-among es e listed) ∙ rw (← own) at (free-among es p f))))
       (λ x.
-      let same : e ≡ x .entry = one-each (o .n) [] es e (x .entry) (list-kept (o .n) list (a .all .l) (a .all .reads) .apart) listed (x .listed) (own ∙ sym (x .pointer)) in
+      let same : e ≡ x .entry = one-each (o .n) [] es e (x .entry) (list-kept (o .n) (o .c) list (a .all .l) (a .all .reads) .apart) listed (x .listed) (own ∙ sym (x .pointer)) in
       rw same (x .may))
       (names .how (a .pointer))
 

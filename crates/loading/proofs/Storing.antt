@@ -14,12 +14,14 @@ use Rattle.records.specs.Answer.{Written, refusal}
 use Rattle.records.specs.Order.{recordFrom}
 use Rattle.records.proofs.Coming.{written-kept}
 use Rattle.records.specs.declared.Refusal.{Refusal}
-use Rattle.lists.specs.List.{listWritten}
-use Rattle.lists.specs.Entries.{counted, listing, without, appended}
+use Rattle.lists.specs.List.{listRead, listWritten}
+use Rattle.lists.specs.Tally.{tallyOf}
+use Rattle.lists.specs.Entries.{counted, withoutPointer, appended}
 use Rattle.lists.specs.declared.list.Entry.{Entry}
 use Rattle.lists.specs.declared.list.ContractList.{ContractList}
 use Rattle.lists.specs.declared.list.ListRead.{ListRead}
-use Rattle.lists.proofs.list.Laws.{list-write-comes}
+use Rattle.lists.proofs.list.Laws.{list-fair, list-write-comes}
+use Rattle.lists.proofs.Kept.{list-got}
 use Rattle.contract.specs.Contract.{contractRead, contractWritten}
 use Rattle.contract.specs.declared.Contract.{Contract}
 use Rattle.contract.specs.declared.ContractRead.the-variants.{Read}
@@ -45,28 +47,33 @@ module _ (o : Order) (list file : List ℕ) (old : ContractList) (new : List ℕ
   store-none z = rw (eq-eqb _ _ z)
 
   module _ (some : pointer ≡ 0 → ⊥) {left listed : ContractList} {e : Entry} {answer : Refusal} {bytes : List ℕ}
-      (a : left ≡ listing (without pointer (counted old))) (b : e ≡ newEntry o pointer) (c : listed ≡ appended e left)
-      (w : record { answer = answer; bytes = bytes } ≡ listWritten (o .n) listed list) where
-    as-renewed : record { answer = answer; bytes = bytes } ≡ listWritten (o .n) (renewed o old pointer) list
+      (a : left ≡ withoutPointer (o .c) pointer old) (b : e ≡ newEntry o pointer) (c : listed ≡ appended (o .c) e left)
+      (w : record { answer = answer; bytes = bytes } ≡ listWritten (o .n) (o .c) listed list) where
+    as-renewed : record { answer = answer; bytes = bytes } ≡ listWritten (o .n) (o .c) (renewed o old pointer) list
     as-renewed =
         let same : listed ≡ renewed o old pointer = c ∙ rw (a, b) in
-        w ∙ ap (λ (l : ContractList). listWritten (o .n) l list) same
+        w ∙ ap (λ (l : ContractList). listWritten (o .n) (o .c) l list) same
 
     pub store-refused : (answer .number ≡ 0 → ⊥) → after (record { refusal = answer; pointer = 0 }) bytes new file ≡ stored o list file old new pointer
     unfolding stored
     store-refused refuses =
-        let answers : answer ≡ listWritten (o .n) (renewed o old pointer) list .answer = ap (λ (x : Written). x .answer) as-renewed in
-        let other : listWritten (o .n) (renewed o old pointer) list .answer .number ≡ 0 → ⊥ = λ z. refuses (ap (λ (r : Refusal). r .number) answers ∙ z) in
-        let same : bytes ≡ list = ap (λ (x : Written). x .bytes) as-renewed ∙ written-kept list (list-write-comes (o .n) (renewed o old pointer) list) other in
+        let answers : answer ≡ listWritten (o .n) (o .c) (renewed o old pointer) list .answer = ap (λ (x : Written). x .answer) as-renewed in
+        let other : listWritten (o .n) (o .c) (renewed o old pointer) list .answer .number ≡ 0 → ⊥ = λ z. refuses (ap (λ (r : Refusal). r .number) answers ∙ z) in
+        let same : bytes ≡ list = ap (λ (x : Written). x .bytes) as-renewed ∙ written-kept list (list-write-comes (o .n) (o .c) (renewed o old pointer) list) other in
         kept answer bytes new file refuses ∙ rw (ne-eqb _ _ some, ne-eqb _ _ other, answers, same)
 
     pub store-done : answer .number ≡ 0 → loaded (refusal 0 0) pointer bytes (placed pointer new file) ≡ stored o list file old new pointer
     unfolding stored
     store-done accepts =
-        let answers : answer ≡ listWritten (o .n) (renewed o old pointer) list .answer = ap (λ (x : Written). x .answer) as-renewed in
-        let zero : listWritten (o .n) (renewed o old pointer) list .answer .number ≡ 0 = sym (ap (λ (r : Refusal). r .number) answers) ∙ accepts in
-        let lists : bytes ≡ listWritten (o .n) (renewed o old pointer) list .bytes = ap (λ (x : Written). x .bytes) as-renewed in
+        let answers : answer ≡ listWritten (o .n) (o .c) (renewed o old pointer) list .answer = ap (λ (x : Written). x .answer) as-renewed in
+        let zero : listWritten (o .n) (o .c) (renewed o old pointer) list .answer .number ≡ 0 = sym (ap (λ (r : Refusal). r .number) answers) ∙ accepts in
+        let lists : bytes ≡ listWritten (o .n) (o .c) (renewed o old pointer) list .bytes = ap (λ (x : Written). x .bytes) as-renewed in
         rw (ne-eqb _ _ some, eq-eqb _ _ zero, lists)
+
+-- The tally of a list that was read.
+pub read-fair : (n c : ℕ) (bytes : List ℕ) {r : ListRead} → r ≡ listRead n c bytes → r .refusal .number ≡ 0
+    → r .list .tally ≡ tallyOf c (counted (r .list))
+read-fair n c bytes same zero = rw same (list-fair n c bytes _ (list-got n c bytes (rw same at zero)))
 
 -- The ways out when the rest is read.
 module _ (o : Order) (list file new : List ℕ) (rest : Refusal) (is-blocked : ℕ → Bool) {r s : ListRead} (same : r ≡ s) where
@@ -101,7 +108,7 @@ end-accepted o list file new rest is-blocked r out same zero =
     p = place is-blocked (o .n) (o .c) (o .counter) (counted (r .list))
 
     w : Written
-    w = listWritten (o .n) (renewed o (r .list) p) list
+    w = listWritten (o .n) (o .c) (renewed o (r .list) p) list
 
     number : {x : Refusal} {q : ℕ} {l f : List ℕ} → out ≡ loaded x q l f → x .number ≡ 0
     number e = sym (ap (λ (t : Outcome). t .answer .refusal .number) e) ∙ zero

@@ -63,8 +63,8 @@ events-stop (suc n) file i =
     (comes-stops order.attempted (λ e. tt) (λ r why. why) (event-comes (recordFrom file i)) refl)
     (λ e. next-stops (events n file (suc i)) _ (events-stop n file (suc i)) (λ es. tt))
 
-pub list-stops : (n : ℕ) (bytes : List ℕ) → Stops (attempted (listRead n bytes))
-list-stops n bytes = comes-stops attempted (λ l. tt) (λ r why. rw (ne-eqb _ _ (why .some)) why) (list-comes n bytes) refl
+pub list-stops : (n c : ℕ) (bytes : List ℕ) → Stops (attempted (listRead n c bytes))
+list-stops n c bytes = comes-stops attempted (λ l. tt) (λ r why. rw (ne-eqb _ _ (why .some)) why) (list-comes n c bytes) refl
 
 specials-stop : (s : ℕ) (bytes : List ℕ) → Stops (specials (specialRead s bytes))
 specials-stop s bytes = comes-stops specials (λ l. tt) (λ r why. rw (ne-eqb _ _ (why .some)) why) (special-comes s bytes) refl

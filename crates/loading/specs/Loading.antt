@@ -110,7 +110,7 @@ found es pointer = needs (not (eqb pointer 0)) 9 (got (record { entries = es; po
 -- All is read, in order: the contract list, the events, the new contract under its type.
 unfoldable pub placing : Order → List ℕ → Lent → Attempt Found
 placing o list lent =
-    next (attempted (listRead (o .n) list))
+    next (attempted (listRead (o .n) (o .c) list))
     (λ l. next (blocking o (lent .special) (lent .journal) (lent .records) (lent .codes))
     (λ is-blocked. next (contractGot (contractRead (o .kind) (lent .new)))
     (λ new. found (counted l) (place is-blocked (o .n) (o .c) (o .counter) (counted l)))))
@@ -150,7 +150,7 @@ bothOrNeither list file pointer w fileAfter =
 abbrev pub storing : Order → List ℕ → List ℕ → List ℕ → Found → Outcome
 storing o list file new f =
     bothOrNeither list file (f .pointer)
-    (listWritten (o .n) (listing (afterwards (newEntry o (f .pointer)) (f .entries))) list)
+    (listWritten (o .n) (o .c) (listing (o .c) (afterwards (newEntry o (f .pointer)) (f .entries))) list)
     (placed (f .pointer) new file)
 
 abbrev pub settled : Order → List ℕ → List ℕ → List ℕ → Attempt Found → Outcome

@@ -1,3 +1,4 @@
 pub mod Unread
 pub mod Marks
+pub mod Tallied
 pub mod Store

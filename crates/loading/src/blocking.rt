@@ -78,8 +78,8 @@ fn mark_special(records: &[u8], list: SpecialList, marks: &mut [bool]) -> Refusa
     Refusal::NONE
 }
 
-// Marks a pointer where it is to be: one that an event names and blocks, one that an entry has. Simple rights have no mark.
-pub fn mark(pointer: u32, blocks: bool, marks: &mut [bool])
+// Marks the pointer that an event names, where it blocks. Simple rights have no mark.
+fn mark(pointer: u32, blocks: bool, marks: &mut [bool])
     requires { ⌜ length (now marks) ≡ 9 ⌝ }
     ensures { λ r. ⌜ Added (λ p. eqb pointer p && blocks) (now (marks .entry)) (now (marks .exit)) ⌝ }
 {

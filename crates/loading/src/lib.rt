@@ -61,9 +61,7 @@ struct Lengths {
 }
 
 impl Order {
-    // The most counter positions, and hours that a journal event blocks.
-    pub const MOST_COUNTERS: u32 = 4;
-
+    // The most hours that a journal event blocks.
     pub const MOST_HOURS: u32 = 255;
 
     // A bit for each event code.
@@ -99,7 +97,7 @@ impl Order {
     {
         (1 <= self.n)
             & (self.n <= ContractList::MOST)
-            & (self.c <= Order::MOST_COUNTERS)
+            & (self.c <= ContractList::MOST_COUNTERS)
             & (self.c <= self.n)
             & (self.s <= SpecialList::MOST)
             & (journal <= MOST_RECORDS)
@@ -233,9 +231,9 @@ fn read_rest(
 fn settle(list: &mut [u8], rest: Refusal, marks: &[bool], order: Order) -> Loaded
     requires { ⌜ (length (now marks) ≡ 9) × (order .n ≤ 8) × (order .c ≤ order .n) ⌝ }
     ensures { λ r. ⌜ ((file new : List ℕ) → record { answer = r; list = now (list .exit); file = fileAfter r new file }
-        ≡ ended order (now (list .entry)) file new rest (marked (now (marks .entry))) (listRead (order .n) (now (list .entry)))) ⌝ }
+        ≡ ended order (now (list .entry)) file new rest (marked (now (marks .entry))) (listRead (order .n) (order .c) (now (list .entry)))) ⌝ }
 {
-    let read = list::read(list, order.n);
+    let read = list::read(list, order.n, order.c);
     if read.refusal.number != 0 {
         return Loaded::refused(read.refusal);
     }
@@ -254,8 +252,9 @@ fn store(list: &mut [u8], old: ContractList, pointer: u32, order: Order) -> Load
     if pointer == 0 {
         return Loaded::refused(Refusal::NO_POSITION);
     }
-    let renewed = old.without(pointer).with(order.entry(pointer));
-    let refusal = list::write(list, order.n, renewed);
+    let renewed = old.without(order.c, pointer)
+        .with(order.c, order.entry(pointer));
+    let refusal = list::write(list, order.n, order.c, renewed);
     if refusal.number != 0 {
         return Loaded::refused(refusal);
     }

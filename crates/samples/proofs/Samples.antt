@@ -7,16 +7,21 @@ use Rattle.rows.specs.table.BestContracts.{contractList}
 use Rattle.rows.specs.table.Contract.{head, data42, data50, contract42, contract50}
 use Rattle.records.specs.Answer.{readRecord, writeRecord}
 use Rattle.lists.specs.Listing.{readList, writeList}
+use Rattle.lists.specs.Tally.{tallyOf}
 use Rattle.loading.specs.Loading.{blocking, placing, finding as preparing, loading}
 use Rattle.gate.specs.Writes.{finding}
 use Rattle.samples.specs.All.{All, _&_}
 use Rattle.samples.specs.Samples.{Holds, samples}
 
 pub samples-hold : All Holds samples
-unfolding samples field blank read readBare frame write writeBare event specialList contractList head data42 data50 contract42 contract50 readRecord writeRecord readList writeList blocking placing preparing loading finding
+unfolding samples field blank read readBare frame write writeBare event specialList contractList head data42 data50 contract42 contract50 readRecord writeRecord readList writeList tallyOf blocking placing preparing loading finding
 samples-hold =
-    -- P1 to P6
-    refl & refl & refl & refl & (refl, refl) & (refl, refl) & refl
+    -- P1 and P2
+    refl & refl
+    -- Q-8
+    & refl & refl & refl & refl & refl
+    -- P3 to P6
+    & refl & refl & (refl, refl) & (refl, refl) & refl
     -- P7 to P10
     & refl & refl & refl & refl & refl & refl & refl
     -- Q-7

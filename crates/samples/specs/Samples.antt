@@ -1,5 +1,5 @@
 -- Samples: what the papers give as examples, one list of statements about the definitions. Document 01, "Samples at the edges" and
--- "Slips that look right"; 02, Q-3 and Q-7; 004 sections 7.2.3, 7.7 and 7.8.
+-- "Slips that look right"; 02, Q-3, Q-7 and Q-8; 004 sections 7.2.3, 7.7 and 7.8.
 use Prim.Native.Nat.{ℕ, zero, suc, _+_, _-_, _*_, _/_, _%_, _^_}
 use mathlib.Core.Bool.{Bool, true, false, _&&_}
 use mathlib.Core.List.{List, [], _∷_, _++_, map}
@@ -14,8 +14,9 @@ use Rattle.records.specs.Event.{eventOf, eventRead, eventWritten}
 use Rattle.records.specs.declared.event.Event.{Event}
 use Rattle.records.specs.declared.event.EventRead.{EventRead}
 use Rattle.records.specs.declared.event.EventRead.the-variants.{Read, Refused}
-use Rattle.lists.specs.List.{gotList, noList, listRead}
+use Rattle.lists.specs.List.{gotList, noList, listRead, listWritten}
 use Rattle.lists.specs.Entries.{listing}
+use Rattle.lists.specs.Tally.{tallyOf}
 use Rattle.lists.specs.declared.list.Entry.{Entry}
 use Rattle.lists.specs.declared.list.ListRead.{ListRead}
 use Rattle.selection.specs.Eligible.{usable, nobody, chosenAt, choose}
@@ -88,8 +89,13 @@ abbrev listedAfter : ℕ → List Entry → List ℕ
 listedAfter pointer es = map (λ (e : Entry). e .pointer) (afterwards (entry 0 0 0 pointer) es)
 
 pub data Case : Type 0 where
-  -- on a card of n records, the list reads as this
-  listReads : (n : ℕ) → List ℕ → ListRead → Case
+  -- on a card of n records, c of them with counter, the list reads as this
+  listReads : (n c : ℕ) → List ℕ → ListRead → Case
+  -- on a card with c counter positions, entries have this tally: pointers in use and entries used up on counter positions, on plain ones
+  tallies : (c : ℕ) → List Entry → (usedCounter spentCounter usedPlain spentPlain : ℕ) → Case
+  -- on a card of n records, c of them with counter, entries with the tally that they have for so many counter positions, written
+  -- onto these bytes
+  listWrites : (n c tallied : ℕ) → List Entry → (before : List ℕ) → Written → Case
   -- loading leaves this
   loads : Order → List ℕ → List ℕ → Lent → Left → Case
   -- on a card of n records, c of them with counter, none blocked, a new contract goes to the pointer, and these are then listed
@@ -110,7 +116,9 @@ pub data Case : Type 0 where
   chooses : (Entry → Bool) → List Entry → Selected → Case
 
 abbrev pub Holds : Case → Type 0
-Holds (listReads n bytes answer) = listRead n bytes ≡ answer
+Holds (listReads n c bytes answer) = listRead n c bytes ≡ answer
+Holds (tallies c es a b d e) = tallyOf c es ≡ record { counter = record { used = a; spent = b }; plain = record { used = d; spent = e } }
+Holds (listWrites n c tallied es before answer) = listWritten n c (listing tallied es) before ≡ answer
 Holds (loads order list file lent left) = loading order list file lent ≡ left
 Holds (places n c counter es pointer listed) = (named n c counter es ≡ pointer) × (listedAfter pointer es ≡ listed)
 Holds (urbanEnds groups bits) = extent (read contract50 (urbanBits groups)) ≡ bits
@@ -170,9 +178,16 @@ left3 = loaded (refusal 0 0) 4 (0x4C020C1C42122C40BE3C484C4 and 33 zeros) (repli
 unfoldable pub samples : List Case
 samples =
     -- P1 list of zeros: count 0.
-    listReads 4 (0 and 58 zeros) (gotList (listing []))
+    listReads 4 4 (0 and 58 zeros) (gotList (listing 4 []))
     -- P2 N = 4, list 3C020C1C42122C40BE3 and 39 zero digits: entries (key, type, priority, pointer) 0 10h 6 1; 2 10h 9 2; 2 05h 15 3.
-    ∷ listReads 4 (0x3C020C1C42122C40BE3 and 39 zeros) (gotList (listing list2))
+    ∷ listReads 4 4 (0x3C020C1C42122C40BE3 and 39 zeros) (gotList (listing 4 list2))
+    -- 02, Q-8: its tally for four counter positions, for two and for none: pointers 1, 2 and 3, and 3 used up. Written with the tally of
+    -- another C it is 6 at place 0.
+    ∷ tallies 4 list2 0b111 1 0 0
+    ∷ tallies 2 list2 0b011 0 0b100 1
+    ∷ tallies 0 list2 0 0 0b111 1
+    ∷ listWrites 4 2 2 list2 (replicate 29 255) (accepted (0x3C020C1C42122C40BE3 and 39 zeros))
+    ∷ listWrites 4 2 4 list2 (replicate 29 255) (denied (refusal 6 0) (replicate 29 255))
     -- P3 load on P2's card, C = 4, entry 2 42h 6 with a 42h record of zeros, no events: pointer 4, list
     -- 4C020C1C42122C40BE3C484C4 and 33 zero digits. Here with a contract file of bytes FFh before.
     ∷ loads (order 4 4 2 true) (0x3C020C1C42122C40BE3 and 39 zeros) (replicate 116 255) (lent [] markingAll) left3
@@ -182,7 +197,7 @@ samples =
     -- P5 with counter: pointer 4.
     ∷ places 8 4 true list8 4 (1 ∷ 2 ∷ 5 ∷ 3 ∷ 6 ∷ 7 ∷ 8 ∷ 4 ∷ [])
     -- P6 list 1C021A1 and 51 zero digits: refusal 4, place 7. By 02, Q-2, field 3.
-    ∷ listReads 4 (0x1C021A1 and 51 zeros) (noList (refusalAt 4 7 3))
+    ∷ listReads 4 4 (0x1C021A1 and 51 zeros) (noList (refusalAt 4 7 3))
     -- P7 50h with head bitmap 1100011 and groups D843h, 810Dh, 0030h: 207, 198, 142 bits.
     ∷ urbanEnds 0xD843 207
     ∷ urbanEnds 0x810D 198
@@ -193,7 +208,7 @@ samples =
     ∷ eventReads 0 1439 0 (Read (eventOf (0 ∷ 1439 ∷ []) []))
     ∷ eventReads 0 1440 0 (Refused (refusalAt 4 14 1))
     -- P10 list of zeros but a last byte 01h: 5, place 231.
-    ∷ listReads 4 (0x01 and 0 zeros) (noList (refusal 5 231))
+    ∷ listReads 4 4 (0x01 and 0 zeros) (noList (refusal 5 231))
     -- 02, Q-7: the same bytes as an event: read, with bit 231 in its margin; written, the same bytes. An event of zeros ends at bit 53:
     -- a one of its margin at bit 52 is in a field's place, one at bit 232 past the record.
     ∷ bytesRead (0x01 and 0 zeros) (Read (eventOf [] (0 ∷ 0 ∷ 0 ∷ 2 ^ 24 ∷ [])))

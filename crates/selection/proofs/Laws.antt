@@ -40,10 +40,10 @@ pointer-within n before (e ∷ es) (suc k) (low, high, new, rest) h = pointer-wi
 abbrev pub chosenOf : ℕ × Entry → Selected
 chosenOf x = chosenAt (x .0) (x .1)
 
-module _ (list file : List ℕ) (n day operator : ℕ) where
+module _ (list file : List ℕ) (n counters day operator : ℕ) where
   -- The answer.
   abbrev s : Selected
-  s = selected list file n day operator
+  s = selected list file n counters day operator
 
   -- The lengths and the limits hold.
   abbrev InOrder : Type 0
@@ -52,13 +52,13 @@ module _ (list file : List ℕ) (n day operator : ℕ) where
   -- Another refusal comes first, or all is in order, the list reads, and its entries decide.
   data Decided (a : Selected) : Type 0 where
     sooner : (r : Refusal) → Refusing (r .number) (r .field) (1 ∷ 11 ∷ 2 ∷ 4 ∷ 5 ∷ 6 ∷ []) → a ≡ unselected r → Decided a
-    later : InOrder → (l : ContractList) → listRead n list ≡ gotList l → a ≡ answer (chosen (choice day operator file l)) → Decided a
+    later : InOrder → (l : ContractList) → listRead n counters list ≡ gotList l → a ≡ answer (chosen (choice day operator file l)) → Decided a
 
   decided : Decided s
   unfolding selected selecting
   decided =
       go (eqb (length list) 29) (eqb (length file) (29 * n)) (leb day 16383) (leb operator 255) refl refl refl refl
-      refl (list-comes n list)
+      refl (list-comes n counters list)
     where
       rest : Attempt ContractList → Attempt Selected
       rest a = next a (λ l. chosen (choice day operator file l))
@@ -73,7 +73,7 @@ module _ (list file : List ℕ) (n day operator : ℕ) where
       beyond = record { some = λ z. omega arith; listed = refl; named = refl }
 
       go : (a b c d : Bool) → eqb (length list) 29 ≡ a → eqb (length file) (29 * n) ≡ b → leb day 16383 ≡ c → leb operator 255 ≡ d
-          → {r : ListRead} → listRead n list ≡ r → ComesTo gotList noList (1 ∷ 11 ∷ 2 ∷ 4 ∷ 5 ∷ 6 ∷ []) r → Decided (out a b c d r)
+          → {r : ListRead} → listRead n counters list ≡ r → ComesTo gotList noList (1 ∷ 11 ∷ 2 ∷ 4 ∷ 5 ∷ 6 ∷ []) r → Decided (out a b c d r)
       go true true true true e f g h is (fine l) = later (eqb-true _ _ e, eqb-true _ _ f, leb-true _ _ g, leb-true _ _ h) l is refl
       go true true true true e f g h is (faulty r why) = sooner r why (rw (ne-eqb _ _ (why .some)))
       go true true true false e f g h is told = sooner (refusal 11 0) beyond refl
@@ -95,7 +95,7 @@ module _ (list file : List ℕ) (n day operator : ℕ) where
   pub record Chosen : Type 0 where
     pub order : InOrder
     pub l : ContractList
-    pub reads : listRead n list ≡ gotList l
+    pub reads : listRead n counters list ≡ gotList l
     -- The position is one of the list's, and its entry is eligible.
     pub low : 1 ≤ s .position
     pub high : s .position ≤ length (counted l)
@@ -112,7 +112,7 @@ module _ (list file : List ℕ) (n day operator : ℕ) where
   pub accepted-chosen : s .refusal .number ≡ 0 → Chosen
   accepted-chosen right = go decided
     where
-      from : InOrder → (l : ContractList) → listRead n list ≡ gotList l → s ≡ answer (chosen (choice day operator file l))
+      from : InOrder → (l : ContractList) → listRead n counters list ≡ gotList l → s ≡ answer (chosen (choice day operator file l))
           → Came (eligible day operator file) 1 nobody (counted l) (choice day operator file l)
           → Chosen
       from order l read is (kept same over) =
@@ -145,7 +145,7 @@ module _ (list file : List ℕ) (n day operator : ℕ) where
   pub record NoneEligible : Type 0 where
     pub order : InOrder
     pub l : ContractList
-    pub reads : listRead n list ≡ gotList l
+    pub reads : listRead n counters list ≡ gotList l
     pub nobody : (k : ℕ) → 1 ≤ k → k ≤ length (counted l) → eligible day operator file (entryAt l k) ≡ false
 
   -- Only then is a selection refused with 8,
@@ -193,7 +193,7 @@ module _ (list file : List ℕ) (n day operator : ℕ) where
   unfolding partOf
   part-is-record right =
       let c = accepted-chosen right in
-      let (low, high) = pointer-within n [] (counted (c .l)) (s .position - 1) (list-kept n list (c .l) (c .reads) .apart) (omega (arith, c .low, c .high)) in
+      let (low, high) = pointer-within n [] (counted (c .l)) (s .position - 1) (list-kept n counters list (c .l) (c .reads) .apart) (omega (arith, c .low, c .high)) in
       let sized : length file ≡ 29 * n = c .order .1 in
       let first : 1 ≤ s .pointer = rw (c .pointer) low in
       let most : s .pointer ≤ n = rw (c .pointer) high in

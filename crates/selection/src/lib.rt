@@ -58,9 +58,9 @@ impl Selected {
     }
 }
 
-// The contract that a gate uses, on a card with n contract records.
-pub fn select(list: &[u8], file: &[u8], n: u32, day: u32, operator: u32) -> Selected
-    ensures { λ r. ⌜ r ≡ selected (now (list .entry)) (now (file .entry)) n day operator ⌝ }
+// The contract that a gate uses, on a card with n contract records, the first c of them with counters.
+pub fn select(list: &[u8], file: &[u8], n: u32, c: u32, day: u32, operator: u32) -> Selected
+    ensures { λ r. ⌜ r ≡ selected (now (list .entry)) (now (file .entry)) n c day operator ⌝ }
 {
     if list.len() != BYTES {
         return Selected::refused(Refusal::WRONG_LENGTH);
@@ -71,7 +71,7 @@ pub fn select(list: &[u8], file: &[u8], n: u32, day: u32, operator: u32) -> Sele
     if (LAST_DAY < day) | (LAST_OPERATOR < operator) {
         return Selected::refused(Refusal::OUTSIDE_LIMITS);
     }
-    let read = list::read(list, n);
+    let read = list::read(list, n, c);
     if read.refusal.number != 0 {
         return Selected::refused(read.refusal);
     }
@@ -219,8 +219,8 @@ fn data_in_force(day: u32, data: Data) -> bool
 }
 
 // Gives the entry at a position another priority: only its four bits of the lent list record change.
-pub fn change_priority(list: &mut [u8], n: u32, position: u32, code: u32) -> Refusal
-    ensures { λ r. ⌜ record { answer = r; bytes = now (list .exit) } ≡ changing (now (list .entry)) n position code ⌝ }
+pub fn change_priority(list: &mut [u8], n: u32, c: u32, position: u32, code: u32) -> Refusal
+    ensures { λ r. ⌜ record { answer = r; bytes = now (list .exit) } ≡ changing (now (list .entry)) n c position code ⌝ }
 {
     if list.len() != BYTES {
         return Refusal::WRONG_LENGTH;
@@ -228,7 +228,7 @@ pub fn change_priority(list: &mut [u8], n: u32, position: u32, code: u32) -> Ref
     if (position == 0) | (code == Entry::UNDEFINED) | (Entry::LAST_PRIORITY < code) {
         return Refusal::OUTSIDE_LIMITS;
     }
-    let read = list::read(list, n);
+    let read = list::read(list, n, c);
     if read.refusal.number != 0 {
         return read.refusal;
     }
@@ -236,5 +236,5 @@ pub fn change_priority(list: &mut [u8], n: u32, position: u32, code: u32) -> Ref
     if old.count < position {
         return Refusal::OUTSIDE_LIMITS;
     }
-    list::write(list, n, old.with_priority(position, code))
+    list::write(list, n, c, old.with_priority(c, position, code))
 }

@@ -1,6 +1,7 @@
 -- What the steps of both lists' readers and writers give.
 use Prim.Native.Nat.{ℕ}
 use mathlib.Core.List.{List, [], _∷_, _++_}
+use mathlib.Core.Bool.{Bool, not, _||_}
 use mathlib.Core.Path.{_≡_}
 use lib.Dec.{eqb}
 use lib.ListN.{length, getD, drop}
@@ -14,6 +15,10 @@ use Rattle.rows.specs.declared.Rule.the-variants.{Any, Tariff}
 -- After all else a cursor stands at the entry at fault, with 6; 0 for none.
 abbrev pub obeyed : Cursor → ℕ → Cursor
 obeyed c k = pick (eqb (c .why) 0) (pick (eqb k 0) c (record { at = k; why = 6; field = 0; number = 0 })) c
+
+-- And after that at place 0, with 6, where the list's tally is no fresh count.
+abbrev pub tallied : Cursor → Bool → Cursor
+tallied c fair = pick (fair || not (eqb (c .why) 0)) c (record { at = 0; why = 6; field = 0; number = 0 })
 
 -- What the takes of an entry give, the count and the entries before it being seen, so many numbers.
 pub record EntryTook (words : List ℕ) (rows : List Row) (n count : ℕ) (c : Cursor) (vs : List ℕ) (d : Cursor) : Type 0 where

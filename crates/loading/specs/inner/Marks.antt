@@ -1,29 +1,15 @@
--- Marks of pointers, one for each pointer that a contract can have, and for 0: what the events that were read, or the entries,
--- add to them.
-use Prim.Native.Nat.{ℕ, zero, suc, _≤_}
+-- Marks of pointers, one for each pointer that a contract can have, and for 0: what the events that were read add to them.
+use Prim.Native.Nat.{ℕ, _≤_}
 use mathlib.Core.Path.{_≡_}
 use mathlib.Core.Bool.{Bool, false, _||_}
 use mathlib.Core.List.{List}
-use lib.Dec.{eqb}
 use lib.ListN.{length, getD}
-use Rattle.rows.specs.Row.{pick}
 use Rattle.records.specs.Answer.{refusal}
 use Rattle.records.specs.Order.{Attempt, got, stopped}
 use Rattle.records.specs.declared.Refusal.{Refusal}
-use Rattle.lists.specs.declared.list.Entry.{Entry}
-use Rattle.loading.specs.Blocking.{some}
 
 abbrev pub marked : List Bool → ℕ → Bool
 marked marks pointer = getD marks pointer false
-
--- The lowest pointer without a mark, of n from one on; 0 for none.
-abbrev pub lowestUnmarked : List Bool → ℕ → ℕ → ℕ
-lowestUnmarked marks zero pointer = 0
-lowestUnmarked marks (suc n) pointer = pick (marked marks pointer) (lowestUnmarked marks n (suc pointer)) pointer
-
--- An entry has the pointer.
-abbrev pub inUse : List Entry → ℕ → Bool
-inUse es pointer = some (λ e. eqb (e .pointer) pointer) es
 
 -- There are as many marks as before, and those of the pointers that a test names are added.
 pub record Added (test : ℕ → Bool) (before after : List Bool) : Type 0 where

@@ -8,7 +8,7 @@ use Rattle.records.specs.Answer.{refusal}
 use Rattle.records.specs.Order.{Attempt, got, next}
 use Rattle.records.specs.declared.Refusal.{Refusal}
 use Rattle.lists.specs.List.{listWritten}
-use Rattle.lists.specs.Entries.{counted, listing, without, appended}
+use Rattle.lists.specs.Entries.{counted, withoutPointer, appended}
 use Rattle.lists.specs.declared.list.ContractList.{ContractList}
 use Rattle.lists.specs.declared.list.ListRead.{ListRead}
 use Rattle.contract.specs.Contract.{contractRead}
@@ -19,13 +19,13 @@ use Rattle.loading.specs.declared.Loaded.{Loaded}
 
 -- The old list without the pointer's entry, and with the new one.
 abbrev pub renewed : Order → ContractList → ℕ → ContractList
-renewed o old pointer = appended (newEntry o pointer) (listing (without pointer (counted old)))
+renewed o old pointer = appended (o .c) (newEntry o pointer) (withoutPointer (o .c) pointer old)
 
 -- What is left to do when the pointer is known.
 unfoldable pub stored : Order → List ℕ → List ℕ → ContractList → List ℕ → ℕ → Outcome
 stored o list file old new pointer =
     pick (eqb pointer 0) (loaded (refusal 9 0) 0 list file)
-    (bothOrNeither list file pointer (listWritten (o .n) (renewed o old pointer) list) (placed pointer new file))
+    (bothOrNeither list file pointer (listWritten (o .n) (o .c) (renewed o old pointer) list) (placed pointer new file))
 
 -- The contract file after an answer: the new record at its pointer's place, or nothing changed.
 abbrev pub fileAfter : Loaded → List ℕ → List ℕ → List ℕ

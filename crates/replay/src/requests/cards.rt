@@ -15,14 +15,15 @@ pub fn select(line: &[u8], from: Scan, list: &[u8], out: &mut [u8]) -> usize {
     let mut space = [0u8; BYTES];
     let second = scan::bytes(line, from, &mut space);
     let n = scan::number(line, second);
-    let day = scan::number(line, n);
+    let c = scan::number(line, n);
+    let day = scan::number(line, c);
     let operator = scan::number(line, day);
     if !scan::ends(line, operator) {
         return 0;
     }
     let k = second.number as usize;
     let file = &space[..k];
-    let selected = selection::select(list, file, n.number, day.number, operator.number);
+    let selected = selection::select(list, file, n.number, c.number, day.number, operator.number);
     answer_selected(out, selected, selection::part(file, selected))
 }
 
@@ -38,12 +39,19 @@ fn answer_selected(out: &mut [u8], selected: Selected, part: &[u8]) -> usize {
 
 pub fn priority(line: &[u8], from: Scan, list: &mut [u8], out: &mut [u8]) -> usize {
     let n = scan::number(line, from);
-    let position = scan::number(line, n);
+    let c = scan::number(line, n);
+    let position = scan::number(line, c);
     let code = scan::number(line, position);
     if !scan::ends(line, code) {
         return 0;
     }
-    let refusal = selection::change_priority(list, n.number, position.number, code.number);
+    let refusal = selection::change_priority(
+        list,
+        n.number,
+        c.number,
+        position.number,
+        code.number,
+    );
     answer::written(out, refusal, list)
 }
 

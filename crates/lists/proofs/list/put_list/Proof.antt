@@ -5,6 +5,7 @@ use lib.ListN.{length}
 use Rattle.rows.specs.table.BestContracts.{contractList}
 use Rattle.rows.specs.inner.Line.{given, _◂_}
 use Rattle.rows.proofs.Running.{puts-long}
+use Rattle.lists.specs.List.{noTally}
 use Rattle.lists.proofs.Listing.{length-of-map}
 use Rattle.lists.proofs.Lines.{Putting, putting-more, putting-all}
 use borrow.Author.Needs.{needs}
@@ -12,7 +13,7 @@ use Rattle.lists.proofs.list.put_list.Statement.{statement}
 use Rattle.lists.proofs.list.put_list.Tie as tie
 
 abbrev Inv-loop : tie.InvT-loop
-Inv-loop draft₀ n count es c₀ k₀ draft c k = Putting (record { count = count; entries = es }) draft₀ c₀ draft c k
+Inv-loop draft₀ n count es c₀ k₀ draft c k = Putting (record { count = count; entries = es; tally = noTally }) draft₀ c₀ draft c k
 
 abbrev μ-loop : tie.MeasureT-loop
 μ-loop draft₀ n count es c₀ k₀ draft c k = 8 - k

@@ -5,16 +5,17 @@ use Rattle.rows.specs.inner.Line.{taken, _▸_}
 use Rattle.records.proofs.Answering.{eight-words}
 use Rattle.lists.specs.List.{listFault}
 use Rattle.lists.proofs.Listing.{list-short, list-outside}
-use Rattle.lists.proofs.Lines.{Sofar, sofar-start, sofar-more, sofar-refused, sofar-read, sofar-denied, line-refused, limit-few}
+use Rattle.lists.proofs.Lines.{Sofar, sofar-start, sofar-more, sofar-refused, sofar-read, sofar-denied, line-refused}
+use Rattle.lists.proofs.Kept.{inside-limits}
 use borrow.Author.Needs.{needs}
 use Rattle.lists.proofs.list.read.Statement.{statement}
 use Rattle.lists.proofs.list.read.Tie as tie
 
 abbrev Inv-loop : tie.InvT-loop
-Inv-loop bytes n words count list₀ judged₀ last₀ k₀ list judged last k = Sofar bytes n words count list judged last k
+Inv-loop bytes n c words count list₀ tally₀ judged₀ last₀ k₀ list tally judged last k = Sofar bytes n c words count list tally judged last k
 
 abbrev μ-loop : tie.MeasureT-loop
-μ-loop bytes n words count list₀ judged₀ last₀ k₀ list judged last k = count - k
+μ-loop bytes n c words count list₀ tally₀ judged₀ last₀ k₀ list tally judged last k = count - k
 
 returns : tie.Need-returns Inv-loop μ-loop
 returns c = c .refused .ensures ∙ list-short _ _ (listFault (c .before .before .before .args .n)) _ _ _ (c .before .if1 .taken)
@@ -33,16 +34,16 @@ returns-3 c =
     let a = c .before .before .before .before .before .before .before .before .before .before .before .before .args in
     let inside = rw (c .before .before .before .before .before .before .before .before .before .outside .ensures) at (c .before .before .before .before .before .before .before .before .if2 .left) in
     let head = c .before .before .before .before .at-most .ensures in
-    c .refused3 .ensures ∙ rw (c .before .met .ensures) (line-refused (a .bytes .now) (a .n) _ (c .before .before .before .before .before .before .before .before .before .before .if1 .left) inside (c .before .before .before .before .before .before .words2 .ensures) 0 _ _ (omega arith) (head ▸ taken) (head .ready) (c .before .before .if3 .taken))
+    c .refused3 .ensures ∙ rw (c .before .met .ensures) (line-refused (a .bytes .now) (a .n) (a .c) _ (c .before .before .before .before .before .before .before .before .before .before .if1 .left) inside (c .before .before .before .before .before .before .words2 .ensures) 0 _ _ (omega arith) (head ▸ taken) (head .ready) (c .before .before .if3 .taken))
 
 start-requires : tie.Need-start-requires Inv-loop μ-loop
-start-requires c κs = limit-few _ (rw (c .before .before .before .before .before .before .before .outside .ensures) at (c .before .before .before .before .before .before .if2 .left))
+start-requires c κs = inside-limits _ (c .before .before .before .before .before .before .before .before .before .before .args .c) (rw (c .before .before .before .before .before .before .before .outside .ensures) at (c .before .before .before .before .before .before .if2 .left)) .0 .1
 
 loop-holds : tie.Need-loop-holds Inv-loop μ-loop
 loop-holds c =
     let a = c .before .before .before .before .before .before .before .before .before .before .before .args in
     let inside = rw (c .before .before .before .before .before .before .before .before .outside .ensures) at (c .before .before .before .before .before .before .before .if2 .left) in
-    sofar-start (a .bytes .now) (a .n) _ _ _ (c .before .before .before .before .before .before .before .before .before .if1 .left) inside (c .before .before .before .before .before .words2 .ensures) (c .before .before .before .at-most .ensures) (c .before .if3 .left) (c .start .ensures)
+    sofar-start (a .bytes .now) (a .n) (a .c) _ _ _ (c .before .before .before .before .before .before .before .before .before .if1 .left) inside (c .before .before .before .before .before .words2 .ensures) (c .before .before .before .at-most .ensures) (c .before .if3 .left) (c .start .ensures)
 
 slice-aggregate-take-entry : tie.Need-slice-aggregate-take-entry Inv-loop μ-loop
 slice-aggregate-take-entry c = eight-words (c .before .before .before .before .before .before .before .before .before .before .before .before .before .before .args .bytes .now) _ (c .before .before .loop .inv .cuts)
@@ -61,7 +62,7 @@ element-set-from-entry c = omega (arith, c .before .before .before .before .befo
 
 loop-again : tie.Need-loop-again Inv-loop μ-loop
 loop-again c =
-    sofar-more (c .before .before .before .before .before .before .before .before .loop .inv) _ _ _ (c .before .before .before .before .before .take-entry .ensures) (c .before .before .before .before .before .before .before .loop-test .taken) (c .before .if4 .left) (c .with .ensures)
+    sofar-more (c .before .before .before .before .before .before .before .before .before .loop .inv) _ _ _ _ (c .before .before .before .before .before .before .take-entry .ensures) (c .before .before .before .before .before .before .before .before .loop-test .taken) (c .before .before .if4 .left) (c .before .with .ensures) (c .with2 .ensures)
 
 slice-aggregate-end : tie.Need-slice-aggregate-end Inv-loop μ-loop
 slice-aggregate-end c = eight-words (c .before .before .before .before .before .before .before .before .before .before .before .before .before .before .args .bytes .now) _ (c .before .before .loop .inv .cuts)
@@ -102,6 +103,7 @@ read-spec =
     (λ c. search needs)
     mul-entry
     element-set-from-entry
+    (λ c κs. search needs)
     (λ c. search needs)
     (λ c κs. search needs)
     (λ c. search needs)

@@ -2,32 +2,37 @@ use mathlib.Core.Path.{refl}
 use native.Mathlib.Omega.{arith}
 use Rattle.rows.specs.table.BestContracts.{contractList}
 use Rattle.rows.proofs.Tables.{list-rows}
-use Rattle.lists.specs.List.{listFault}
-use Rattle.lists.proofs.Lines.{limit-few}
-use Rattle.lists.proofs.Listing.{list-written, list-unwritten, list-unwritten-outside}
+use Rattle.lists.specs.List.{listFault, fair}
+use Rattle.lists.proofs.Kept.{inside-limits}
+use Rattle.lists.proofs.Listing.{list-tallied, list-unwritten, list-unwritten-outside, fairly-unwritten}
 use borrow.Author.Needs.{needs}
 use Rattle.lists.proofs.list.write.Statement.{statement}
 use Rattle.lists.proofs.list.write.Tie as tie
 
 returns : tie.Need-returns
 unfolding contractList
-returns c = list-unwritten (listFault (c .before .before .args .n)) _ _ _ _ (c .if1 .taken)
+returns c =
+    let a = c .before .before .args in
+    fairly-unwritten (listFault (a .n)) _ _ _ _ (fair (a .c) (a .list)) _ refl (list-unwritten (listFault (a .n)) _ _ _ _ (c .if1 .taken))
 
 returns-2 : tie.Need-returns-2
 unfolding contractList
-returns-2 c = list-unwritten-outside (listFault (c .before .before .before .before .args .n)) _ _ _ _ (c .before .before .if1 .left) (rw (c .before .outside .ensures) at (c .if2 .taken))
+returns-2 c =
+    let a = c .before .before .before .before .args in
+    fairly-unwritten (listFault (a .n)) _ _ _ _ (fair (a .c) (a .list)) _ refl (list-unwritten-outside (listFault (a .n)) _ _ _ _ (c .before .before .if1 .left) (rw (c .before .outside .ensures) at (c .if2 .taken)))
 
 at-fault-requires : tie.Need-at-fault-requires
-at-fault-requires c κs = limit-few _ (rw (c .before .before .before .before .outside .ensures) at (c .before .before .before .if2 .left))
+at-fault-requires c κs = inside-limits _ (c .before .before .before .before .before .before .before .args .c) (rw (c .before .before .before .before .outside .ensures) at (c .before .before .before .if2 .left)) .0 .1
 
 returns-3 : tie.Need-returns-3
 unfolding contractList
 returns-3 c =
-    let a = c .before .before .before .before .before .before .before .before .before .before .before .before .before .before .before .args in
-    let inside = rw (c .before .before .before .before .before .before .before .before .before .before .before .before .outside .ensures) at (c .before .before .before .before .before .before .before .before .before .before .before .if2 .left) in
-    let last = rw (c .before .before .before .before .before .before .before .at-fault .ensures) at (c .before .before .before .before .before .before .obeyed .ensures) in
+    let a = c .before .before .before .before .before .before .before .before .before .before .before .before .before .before .before .before .before .args in
+    let inside = rw (c .before .before .before .before .before .before .before .before .before .before .before .before .before .before .outside .ensures) at (c .before .before .before .before .before .before .before .before .before .before .before .before .before .if2 .left) in
+    let ruled = rw (c .before .before .before .before .before .before .before .before .before .at-fault .ensures) at (c .before .before .before .before .before .before .before .before .obeyed .ensures) in
+    let last = rw (c .before .before .before .before .before .before .before .is-fair .ensures) at (c .before .before .before .before .before .before .fair .ensures) in
     rw (c .met .ensures)
-    (list-written (listFault (a .n)) _ (contractList (a .n)) _ _ _ _ _ _ _ _ (omega (arith, list-rows (a .n))) (c .before .before .before .before .before .before .before .before .before .before .before .before .before .if1 .left) inside refl refl (c .before .before .before .before .before .before .before .before .before .put-list .ensures) last (c .before .before .before .end .ensures))
+    (list-tallied (listFault (a .n)) _ (contractList (a .n)) _ _ _ _ _ _ _ (omega (arith, list-rows (a .n))) (c .before .before .before .before .before .before .before .before .before .before .before .before .before .before .before .if1 .left) inside refl refl (c .before .before .before .before .before .before .before .before .before .before .before .put-list .ensures) ruled (fair (a .c) (a .list)) _ last (c .before .before .before .end .ensures))
 
 pub write-spec : {M : Type 1} → statement M
 write-spec =
@@ -39,6 +44,8 @@ write-spec =
     (λ c. search needs)
     (λ c κs. search needs)
     at-fault-requires
+    (λ c κs. search needs)
+    (λ c κs. search needs)
     (λ c κs. search needs)
     (λ c. search needs)
     (λ c κs. search needs)

@@ -22,7 +22,7 @@ unfolding specialList
 returns-3 c =
     let last = rw (c .before .before .before .before .before .before .before .at-fault .ensures) at (c .before .before .before .before .before .before .obeyed .ensures) in
     rw (c .met .ensures)
-    (list-written (specialFault (c .before .before .before .before .before .before .before .before .before .before .before .before .before .before .args .s)) _ specialList _ _ _ _ _ _ _ _ (omega (arith, special-rows)) (c .before .before .before .before .before .before .before .before .before .before .before .before .if1 .left) (le-ltb _ _ (c .before .before .before .before .before .before .before .before .before .before .before .if2 .left)) refl refl (c .before .before .before .before .before .before .before .before .before .put-list .ensures) last (c .before .before .before .end .ensures))
+    (list-written (specialFault (c .before .before .before .before .before .before .before .before .before .before .before .before .before .before .args .s)) _ specialList _ _ _ _ _ _ _ (omega (arith, special-rows)) (c .before .before .before .before .before .before .before .before .before .before .before .before .if1 .left) (le-ltb _ _ (c .before .before .before .before .before .before .before .before .before .before .before .if2 .left)) refl refl (c .before .before .before .before .before .before .before .before .before .put-list .ensures) last (c .before .before .before .end .ensures))
 
 pub write-spec : {M : Type 1} → statement M
 write-spec =
