@@ -157,10 +157,6 @@ length-without pointer (e ∷ es) = go (eqb (e .pointer) pointer) (length-withou
     go true h = omega arith
     go false h = omega arith
 
-pub bit-most : {r : ℕ} (t : Bool) → r ≡ bit t → r ≤ 1
-bit-most true same = omega arith
-bit-most false same = omega arith
-
 -- An entry of a pointer, and used up.
 abbrev pub spentOn : ℕ → Entry → Bool
 spentOn pointer e = eqb (e .pointer) pointer && usedUp e

@@ -1,26 +1,32 @@
 -- Every method of a contract list keeps its tally a fresh count; and so what loading makes of a list that was read is the list of
 -- the entries afterwards.
-use Prim.Native.Nat.{ℕ, zero, suc, _+_, _-_, _≤_, _<_, min}
+use Prim.Native.Nat.{ℕ, zero, suc, _+_, _-_, _%_, _^_, _≤_, _<_}
 use mathlib.Core.List.{List, [], _∷_, _++_}
-use mathlib.Core.Bool.{Bool, true, false, _&&_}
-use mathlib.Core.Path.{_≡_, refl, sym, ap, _∙_}
+use mathlib.Core.Bool.{Bool, true, false, not, _&&_}
+use mathlib.Core.Path.{_≡_, refl, ap, _∙_}
 use native.Mathlib.Omega.{arith}
 use native.Mathlib.Numerals.{add-one}
 use lib.Dec.{eqb, ltb, leb}
 use lib.ListN.{length, getD, set, take, length-append}
 use lib.Seq.{getD-take, length-take-le, take-suc, take-suc-set, take-all}
-use borrow.Author.Tests.{lt-ltb, ltb-true, leb-true}
+use borrow.Author.Tests.{lt-ltb, ltb-true, leb-true, le-leb, lt-leb}
+use Rattle.bits.specs.Bits.{bit}
 use Rattle.rows.specs.Row.{pick}
 use Rattle.rows.proofs.Margins.{both}
-use Rattle.lists.specs.List.{entryOf, entryAt}
+use Rattle.lists.specs.List.{entryOf, entryAt, numbersOf, listFault, fair}
 use Rattle.lists.specs.Entries.{counted, listing, recoded, recodedAt, withPriority, without, withoutPointer, appended}
-use Rattle.lists.specs.Tally.{tallyOf, entered, revalued, atPointer}
+use Rattle.lists.specs.Tally.{inUse, usedUp, howMany, tallyOf, sameTally, freeOf, entered, revalued, atPointer}
+use Rattle.lists.specs.inner.Judging.{Recounts}
 use Rattle.lists.specs.declared.list.Entry.{Entry}
 use Rattle.lists.specs.declared.list.ContractList.{ContractList}
+use Rattle.lists.specs.declared.list.Recount.{Recount}
+use Rattle.lists.specs.declared.rules.Judged.{Judged}
+use Rattle.lists.specs.declared.tally.Spent.{Spent}
 use Rattle.lists.specs.declared.tally.Tally.{Tally}
-use Rattle.lists.proofs.Tallying.{tally-entered, tally-removed, tally-recoded}
+use Rattle.lists.proofs.Judging.{Turned, judges-none, judges-more}
+use Rattle.lists.proofs.Tallying.{many-most, vacancies, free-count, tally-entered, tally-removed, tally-recoded, tally-counted, spent-few, spent-more}
 use Rattle.lists.proofs.Entries.{length-counted, length-without, filled, counted-filled, filled-more}
-use Rattle.lists.proofs.list.Laws.{Fair}
+use Rattle.lists.proofs.list.Laws.{Fair, fault-list}
 
 -- The first entries of a list with another priority are the first ones with it.
 take-recoded : (m position code : ℕ) (es : List Entry) → take m (recodedAt position code es) ≡ recodedAt position code (take m es)
@@ -98,16 +104,76 @@ pub appended-listing : (c : ℕ) (e : Entry) (es : List Entry) → length es < 8
 appended-listing c e es h =
     rw (lt-ltb _ _ h, length-append, filled-more e es h, tally-entered c es e h)
 
--- A fresh count, entry by entry.
-module _ (c : ℕ) (l : ContractList) (eight : length (l .entries) ≡ 8) (i : ℕ) where
-  pub tally-next : (d : Entry) (t u : Tally) → i < length (counted l) → t ≡ tallyOf c (take i (counted l))
-      → u ≡ atPointer c (getD (l .entries) i d .pointer) (entered (getD (l .entries) i d .pointer) (getD (l .entries) i d .priority)) t
-      → u ≡ tallyOf c (take (i + 1) (counted l))
-  tally-next d t u more sofar one =
-      let counts : i < l .count = omega (arith, length-counted l eight) in
-      let own : getD (counted l) i d ≡ getD (l .entries) i d = getD-take (l .count) (l .entries) i d counts in
-      let room : length (take i (counted l)) < 8 = omega (arith, length-take-le i (counted l) (omega arith), length-counted l eight) in
-      one ∙ rw (sofar, add-one i, take-suc (counted l) i d more, own) (tally-entered c (take i (counted l)) (getD (l .entries) i d) room)
+-- What the counter's screen shows of such a list: how many positions no entry has, and how many entries are used up.
+module _ (n c : ℕ) (l : ContractList) (even : Fair c l) where
+  -- those above one pointer and up to another
+  abbrev vacant : ℕ → ℕ → ℕ
+  vacant above last = vacancies (λ p. ltb above p && leb p last && not (inUse (counted l) p)) 8 1
 
-  pub tally-all : (t : Tally) → length (counted l) ≤ i → t ≡ tallyOf c (take i (counted l)) → t ≡ tallyOf c (counted l)
-  tally-all t all sofar = sofar ∙ ap (tallyOf c) (take-all i (counted l) all)
+  pub record Screen : Type 0 where
+    pub free-counters : freeOf 0 c (l .tally .counter) ≡ vacant 0 c
+    pub free-plain : freeOf c n (l .tally .plain) ≡ vacant c n
+    pub used-up-counters : l .tally .counter .spent ≡ howMany (λ e. leb (e .pointer) c && usedUp e) (counted l)
+    pub used-up-plain : l .tally .plain .spent ≡ howMany (λ e. not (leb (e .pointer) c) && usedUp e) (counted l)
+
+  pub screen : Screen
+  unfolding tallyOf
+  screen =
+      record {
+        free-counters = rw even (free-count (λ p. leb p c) (counted l) 0 c (λ p above most. le-leb p c most));
+        free-plain = rw even (free-count (λ p. not (leb p c)) (counted l) c n (λ p above most. rw (lt-leb p c above)));
+        used-up-counters = rw even;
+        used-up-plain = rw even;
+      }
+
+-- A fresh count, and the rule, entry by entry.
+pub recount-none : (n c : ℕ) → Recounts n c [] (record { judged = record { used = 0; fault = 0 }; spent = record { all = 0; counter = 0 } })
+recount-none n c = record { judges = judges-none 3 n; spent = refl }
+
+module _ (n c : ℕ) (l : ContractList) (eight : length (l .entries) ≡ 8) (i : ℕ) (j : Judged) (s : Spent)
+    (so : Recounts n c (take i (counted l)) (record { judged = j; spent = s })) where
+  module _ (more : i < length (counted l)) where
+    long : length (take i (counted l)) ≡ i
+    long = length-take-le i (counted l) (omega arith)
+
+    pub recount-few : (s .all < 8) × (s .counter < 8)
+    recount-few =
+        let most = length-counted l eight in
+        rw (so .spent) (
+          omega (arith, many-most usedUp (take i (counted l)), long, more, most),
+          omega (arith, many-most (λ e. leb (e .pointer) c && usedUp e) (take i (counted l)), long, more, most),
+        )
+
+    pub recount-more : (d : Entry) (i′ : Judged) (t : Spent)
+        → t ≡ record { all = s .all + bit (usedUp (getD (l .entries) i d)); counter = s .counter + bit (leb (getD (l .entries) i d .pointer) c && usedUp (getD (l .entries) i d)) }
+        → Turned 3 n j (i + 1) (getD (l .entries) i d .bitmap) (getD (l .entries) i d .pointer) i′
+        → Recounts n c (take (i + 1) (counted l)) (record { judged = i′; spent = t })
+    recount-more d i′ t one turned =
+        let counts : i < l .count = omega (arith, length-counted l eight, more) in
+        let own : getD (counted l) i d ≡ getD (l .entries) i d = getD-take (l .count) (l .entries) i d counts in
+        let next : take (i + 1) (counted l) ≡ take i (counted l) ++ (getD (l .entries) i d ∷ []) = rw (add-one i, take-suc (counted l) i d more, own) in
+        record {
+          judges = rw next (judges-more _ _ 3 n (take i (counted l)) (getD (l .entries) i d) (i + 1) (rw long) (so .judges) turned);
+          spent = one ∙ rw (so .spent, next) (spent-more c (take i (counted l)) (getD (l .entries) i d));
+        }
+
+  pub recount-all : length (counted l) ≤ i → Recounts n c (counted l) (record { judged = j; spent = s })
+  recount-all all = rw (take-all i (counted l) all) at so
+
+-- The cursor after the rule and the tally, by such a count.
+module _ (n c : ℕ) (l : ContractList) (eight : length (l .entries) ≡ 8) (r : Recount) (so : Recounts n c (counted l) r) where
+  pub rule-held : r .judged .fault ≡ listFault n (numbersOf l)
+  rule-held = so .judges .fault ∙ fault-list n l eight
+
+  pub recount-ready : r .spent .counter ≤ r .spent .all
+  recount-ready = rw (so .spent) (spent-few c (counted l))
+
+  -- What the tally is held to, where no entry is at fault.
+  pub tally-held : (t : Tally) → r .judged .fault ≡ 0
+      → t ≡ record {
+        counter = record { used = r .judged .used % 2 ^ c; spent = r .spent .counter };
+        plain = record { used = r .judged .used - r .judged .used % 2 ^ c; spent = r .spent .all - r .spent .counter };
+      }
+      → sameTally (l .tally) t ≡ fair c l
+  tally-held t clear made =
+      ap (sameTally (l .tally)) (made ∙ rw (so .spent) (tally-counted c (counted l) (r .judged .used) (so .judges .used clear)))

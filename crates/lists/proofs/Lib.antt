@@ -1,3 +1,4 @@
+pub mod Masks
 pub mod Judging
 pub mod Tallying
 pub mod Listing

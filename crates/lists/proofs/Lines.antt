@@ -1,7 +1,7 @@
 -- The loops of the contract list's reader and writer: an entry more of the table's line, and the line of the whole table.
 use Prim.Native.Nat.{ℕ, zero, suc, _+_, _-_, _*_, _/_, _%_, _^_, _≤_, _<_}
 use mathlib.Core.List.{List, [], _∷_, _++_, append-nil, append-assoc}
-use mathlib.Core.Bool.{Bool, true, false, _&&_, _||_}
+use mathlib.Core.Bool.{Bool, true, false, _&&_}
 use mathlib.Core.Path.{_≡_, refl, sym, ap, _∙_}
 use native.Mathlib.Omega.{arith}
 use native.Mathlib.Numerals.{add-one}
@@ -10,7 +10,7 @@ use lib.ListN.{length, getD, set, take, drop, replicate, length-append, length-s
 use lib.Seq.{getD-at, length-take-le, take-all, split-at, take-suc, take-suc-set, drop-set-lt, drop-drop, drop-at}
 use lib.Pow as pow
 use borrow.Author.Tests.{eq-eqb, ne-eqb, le-ltb, ltb-false, eqb-true, leb-true}
-use Rattle.bits.specs.Bits.{number, cut, spread}
+use Rattle.bits.specs.Bits.{bit, number, cut, spread}
 use Rattle.bits.specs.inner.Words.{numberAt}
 use Rattle.bits.proofs.Cutting.{length-spread}
 use Rattle.rows.specs.Row.{Row, always, boxMost, pick}
@@ -30,19 +30,20 @@ use Rattle.records.specs.inner.Met.{met}
 use Rattle.records.proofs.Inverse.{named-all}
 use Rattle.records.proofs.Answering.{all-words}
 use Rattle.lists.specs.List.{entryNumbers, entryOf, numbersOf, listOf, outside, listFault, gotList, noTally, noList, listRead}
-use Rattle.lists.specs.Tally.{tallyOf, entered, atPointer}
+use Rattle.lists.specs.Tally.{usedUp, tallyOf}
 use Rattle.lists.specs.inner.Steps.{obeyed, EntryTook, RestTook, EntryGave}
-use Rattle.lists.specs.inner.Judging.{Judges}
+use Rattle.lists.specs.inner.Judging.{Judges, spentOf}
 use Rattle.lists.specs.declared.list.Entry.{Entry}
 use Rattle.lists.specs.declared.list.ContractList.{ContractList}
 use Rattle.lists.specs.declared.rules.Judged.{Judged}
+use Rattle.lists.specs.declared.tally.Spent.{Spent}
 use Rattle.lists.specs.declared.tally.Tally.{Tally}
 use Rattle.lists.proofs.Rowing.{rowsFrom, rows-split, rows-more, flat, flat-append, seen-long, seen-more}
-use Rattle.lists.proofs.Judging.{Turned, judges-more}
-use Rattle.lists.proofs.Tallying.{tally-none, tally-entered}
+use Rattle.lists.proofs.Judging.{Turned, judges-none, judges-more}
+use Rattle.lists.proofs.Tallying.{many-most, tally-counted, spent-few, spent-more}
 use Rattle.lists.proofs.Kept.{inside-limits}
 use Rattle.lists.proofs.list.Laws.{bitmaps, pointers, fault-list, list-of-numbers}
-use Rattle.lists.proofs.Listing.{list-read, list-refused}
+use Rattle.lists.proofs.Listing.{obeyed-none, list-read, list-refused}
 
 numbers-flat : (l : ContractList) → length (l .entries) ≡ 8 → numbersOf l ≡ l .count ∷ flat entryNumbers (l .entries)
 numbers-flat l eight = ap (λ (es : List Entry). l .count ∷ flat entryNumbers es) (named-all (entryOf [] 0) 8 (l .entries) eight)
@@ -171,8 +172,8 @@ module _ (bytes : List ℕ) (n counters : ℕ) (words : List ℕ)
       (rw (ne-eqb _ _ why))
       why
 
--- What the reader's loop has come to before entry k: the entries so far taken, tallied and judged, the others as at the start.
-pub record Sofar (bytes : List ℕ) (n counters : ℕ) (words : List ℕ) (count : ℕ) (l : ContractList) (t : Tally) (j : Judged) (c : Cursor) (k : ℕ) : Type 0 where
+-- What the reader's loop has come to before entry k: the entries so far taken, judged and counted, the others as at the start.
+pub record Sofar (bytes : List ℕ) (n counters : ℕ) (words : List ℕ) (count : ℕ) (l : ContractList) (j : Judged) (s : Spent) (c : Cursor) (k : ℕ) : Type 0 where
   pub whole : length bytes ≡ 29
   pub inside : outside n counters ≡ false
   pub cuts : words ≡ cut 32 64 8 (spread 8 bytes)
@@ -184,18 +185,17 @@ pub record Sofar (bytes : List ℕ) (n counters : ℕ) (words : List ℕ) (count
   pub ready : Ready words 232 c
   pub takes : Takes words 232 (boxMost n 4 always ∷ rowsFrom entry 0 k) [] start (count ∷ flat entryNumbers (take k (l .entries))) c
   pub others : drop k (l .entries) ≡ replicate (8 - k) none
-  pub tallies : t ≡ tallyOf counters (take k (l .entries))
+  pub spends : s ≡ spentOf counters (take k (l .entries))
   pub judges : Judges 3 n (bitmaps (take k (l .entries))) (pointers (take k (l .entries))) j
 
-pub sofar-start : (bytes : List ℕ) (n counters : ℕ) (words : List ℕ) (j : Judged) (head : Cursor)
+pub sofar-start : (bytes : List ℕ) (n counters : ℕ) (words : List ℕ) (head : Cursor)
     → length bytes ≡ 29
     → outside n counters ≡ false
     → words ≡ cut 32 64 8 (spread 8 bytes)
     → Took words 232 start Always (4 ∷ []) (Most n) (head .number ∷ []) head
     → head .why ≡ 0
-    → ((full : ℕ) → Judges full n [] [] j)
-    → Sofar bytes n counters words (head .number) (record { count = head .number; entries = replicate 8 none; tally = noTally }) noTally j head 0
-sofar-start bytes n counters words j head whole inside cuts took clear judges =
+    → Sofar bytes n counters words (head .number) (record { count = head .number; entries = replicate 8 none; tally = noTally }) (record { used = 0; fault = 0 }) (record { all = 0; counter = 0 }) head 0
+sofar-start bytes n counters words head whole inside cuts took clear =
     let long : length (spread 8 bytes) ≡ 232 = rw (length-spread 8 bytes, whole) in
     let most : head .number ≤ n =
     took-most words 232 start head 4 n (spread 8 bytes) long (all-words bytes words cuts) refl (omega arith) clear took in
@@ -212,11 +212,11 @@ sofar-start bytes n counters words j head whole inside cuts took clear judges =
       ready = took .ready;
       takes = took ▸ taken;
       others = refl;
-      tallies = sym (tally-none counters);
-      judges = judges 3;
+      spends = refl;
+      judges = judges-none 3 n;
     }
 
-module _ {bytes : List ℕ} {n counters : ℕ} {words : List ℕ} {count : ℕ} {l : ContractList} {t : Tally} {j : Judged} {c : Cursor} {k : ℕ} (so : Sofar bytes n counters words count l t j c k) where
+module _ {bytes : List ℕ} {n counters : ℕ} {words : List ℕ} {count : ℕ} {l : ContractList} {j : Judged} {s : Spent} {c : Cursor} {k : ℕ} (so : Sofar bytes n counters words count l j s c k) where
   few-taken : k ≤ 8
   few-taken = omega (arith, so .few, so .upto)
 
@@ -238,14 +238,30 @@ module _ {bytes : List ℕ} {n counters : ℕ} {words : List ℕ} {count : ℕ} 
   sofar-refused e d took more why =
       line-refused bytes n counters words (so .whole) (so .inside) (so .cuts) (k + 1) _ d (omega (arith, so .few)) (more-taken e d took) (took .ready) why
 
-  pub sofar-more : (e : Entry) (d : Cursor) (u : Tally) (i : Judged)
+  -- What counting an entry more, and making the tally, ask for.
+  pub sofar-limit : n ≤ 8
+  sofar-limit = inside-limits n counters (so .inside) .0 .1
+
+  pub sofar-few : k < count → (s .all < 8) × (s .counter < 8)
+  sofar-few more =
+      let passed = take k (l .entries) in
+      let long : length passed ≡ k = length-take-le k (l .entries) (rw (so .eight) few-taken) in
+      rw (so .spends) (
+        omega (arith, many-most usedUp passed, so .few),
+        omega (arith, many-most (λ e. leb (e .pointer) counters && usedUp e) passed, so .few),
+      )
+
+  pub sofar-ready : (counters ≤ 8) × (s .counter ≤ s .all)
+  sofar-ready = (omega (arith, inside-limits n counters (so .inside)), rw (so .spends) (spent-few counters (take k (l .entries))))
+
+  pub sofar-more : (e : Entry) (d : Cursor) (i : Judged) (t : Spent)
       → EntryTook words (entry k) (1 + 6 * k) count c (entryNumbers e) d
       → k < count
       → d .why ≡ 0
-      → u ≡ atPointer counters (e .pointer) (entered (e .pointer) (e .priority)) t
-      → Turned 3 j (k + 1) (e .bitmap) (e .pointer) i
-      → Sofar bytes n counters words count (record { count = l .count; entries = set (l .entries) k e; tally = l .tally }) u i d (k + 1)
-  sofar-more e d u i took more clear counted turned =
+      → t ≡ record { all = s .all + bit (usedUp e); counter = s .counter + bit (leb (e .pointer) counters && usedUp e) }
+      → Turned 3 n j (k + 1) (e .bitmap) (e .pointer) i
+      → Sofar bytes n counters words count (record { count = l .count; entries = set (l .entries) k e; tally = l .tally }) i t d (k + 1)
+  sofar-more e d i t took more clear counted turned =
       let inside : k < length (l .entries) = omega (arith, so .few, so .eight) in
       let long : length (take k (l .entries)) ≡ k = length-take-le k (l .entries) (omega arith) in
       let next : take (k + 1) (set (l .entries) k e) ≡ take k (l .entries) ++ (e ∷ []) = rw (add-one k) (take-suc-set (l .entries) k e inside) in
@@ -266,7 +282,7 @@ module _ {bytes : List ℕ} {n counters : ℕ} {words : List ℕ} {count : ℕ} 
             drop-set-lt (k + 1) (l .entries) k e (omega arith)
             ∙ sym (drop-drop 1 k (l .entries))
             ∙ rw (so .others, less);
-        tallies = counted ∙ rw (so .tallies, next) (tally-entered counters (take k (l .entries)) e (omega (arith, so .few)));
+        spends = counted ∙ rw (so .spends, next) (spent-more counters (take k (l .entries)) e);
         judges = rw next (judges-more _ _ 3 n (take k (l .entries)) e (k + 1) (omega arith) (so .judges) turned);
       }
 
@@ -295,10 +311,15 @@ module _ {bytes : List ℕ} {n counters : ℕ} {words : List ℕ} {count : ℕ} 
         so .judges .fault ∙ rw all (fault-list n l (so .eight))
 
     module _ (e f : Cursor) (ended : Ended words 232 c e) (ruled : f ≡ obeyed e (j .fault)) where
-      pub sofar-read : f .why ≡ 0 → gotList (record { count = l .count; entries = l .entries; tally = t }) ≡ listRead n counters bytes
-      sofar-read ok =
+      pub sofar-read : f .why ≡ 0 → (t : Tally)
+          → t ≡ record { counter = record { used = j .used % 2 ^ counters; spent = s .counter }; plain = record { used = j .used - j .used % 2 ^ counters; spent = s .all - s .counter } }
+          → gotList (record { count = l .count; entries = l .entries; tally = t }) ≡ listRead n counters bytes
+      sofar-read ok t made =
           let all : k ≡ l .count = omega (arith, so .upto, so .counts) in
-          ap gotList (sym (list-of-numbers counters (record { count = l .count; entries = l .entries; tally = t }) (so .eight) (rw all at (so .tallies))))
+          let clear : j .fault ≡ 0 = obeyed-none e (j .fault) (rw ruled at ok) in
+          let even : t ≡ tallyOf counters (take k (l .entries)) =
+          made ∙ rw (so .spends) (tally-counted counters (take k (l .entries)) (j .used) (so .judges .used clear)) in
+          ap gotList (sym (list-of-numbers counters (record { count = l .count; entries = l .entries; tally = t }) (so .eight) (rw all at even)))
           ∙ list-read (λ vals. gotList (listOf counters vals)) noList (listFault n) (outside n counters) (contractList n) bytes words (numbersOf l) (skipped .last) e f
           (omega (arith, list-rows n)) (so .whole) (so .inside) (so .cuts) sofar-taken (skips-ended e skipped (so .clear) ended) (ruled ∙ rw sofar-fault) ok
 

@@ -7,7 +7,7 @@ use native.Mathlib.Omega.{arith}
 use lib.Dec.{eqb}
 use lib.ListN.{length, getD, take, drop, length-append, length-map}
 use lib.Seq.{getD-at, drop-drop, drop-append-seam, take-append-seam}
-use borrow.Author.Tests.{eq-eqb, ne-eqb, eqb-true}
+use borrow.Author.Tests.{eq-eqb, ne-eqb, eqb-true, eqb-false}
 use Rattle.bits.specs.Bits.{cut, spread, zeros}
 use Rattle.bits.proofs.Cutting.{length-spread, cut-pad}
 use Rattle.rows.specs.Row.{Row, pick, above, bit}
@@ -108,6 +108,16 @@ obeyed-clear c k = go (eqb (c .why) 0) refl
     go : (b : Bool) → eqb (c .why) 0 ≡ b → pick b (pick (eqb k 0) c (record { at = k; why = 6; field = 0; number = 0 })) c .why ≡ 0 → c .why ≡ 0
     go true e ok = eqb-true (c .why) 0 e
     go false e ok = ok
+
+-- And the rule finds no fault where nothing is refused.
+pub obeyed-none : (c : Cursor) (k : ℕ) → obeyed c k .why ≡ 0 → k ≡ 0
+obeyed-none c k = go (eqb (c .why) 0) refl (eqb k 0) refl
+  where
+    go : (b : Bool) → eqb (c .why) 0 ≡ b → (t : Bool) → eqb k 0 ≡ t
+        → pick b (pick t c (record { at = k; why = 6; field = 0; number = 0 })) c .why ≡ 0 → k ≡ 0
+    go true e true h ok = eqb-true k 0 h
+    go true e false h ok = absurd (omega arith)
+    go false e t h ok = absurd (eqb-false _ _ e ok)
 
 module _ {A : Type 0} (good : List ℕ → A) (bad : Refusal → A) (fault : List ℕ → ℕ) (outside : Bool) (rows : List Row) (bytes : List ℕ) where
   pub list-short : (length bytes ≡ 29 → ⊥) → bad (refusal 1 0) ≡ readList good bad fault outside rows bytes

@@ -1,23 +1,22 @@
 -- The tally of a list: what the methods do to it is what a fresh count gives.
-use Prim.Native.Nat.{ℕ, zero, suc, _+_, _-_, _*_, _/_, _%_, _^_, _≤_, _<_}
-use mathlib.Core.List.{List, [], _∷_, _++_}
-use mathlib.Core.Bool.{Bool, true, false, not, _&&_, _||_, and-false, or-false, or-true, or-assoc, true≢false}
+use Prim.Native.Nat.{ℕ, zero, suc, _+_, _-_, _/_, _%_, _^_, _≤_, _<_}
+use mathlib.Core.List.{List, [], _∷_, _++_, map}
+use mathlib.Core.Bool.{Bool, true, false, not, _&&_, _||_, and-false, or-false, or-true, or-assoc}
 use mathlib.Core.Path.{_≡_, refl, sym, ap, _∙_}
 use native.Mathlib.Omega.{arith}
-use native.Mathlib.Nat.{pow-succ'}
 use lib.Dec.{eqb, ltb, leb}
 use lib.ListN.{length, getD}
-use borrow.Author.Tests.{eq-eqb, ne-eqb, eqb-true, eqb-false, le-leb, leb-true, ltb-true, lt-ltb}
+use borrow.Author.Tests.{eq-eqb, ne-eqb, eqb-true, eqb-false, leb-true, ltb-true, lt-ltb}
 use Rattle.bits.specs.Bits.{bit, odd}
-use Rattle.rows.specs.Row.{pick}
+use Rattle.rows.specs.Row.{pick, among}
 use Rattle.rows.proofs.Margins.{both}
 use Rattle.lists.specs.Tally.{inUse, usedUp, howMany, mask, positions, tallyOf, samePositions, sameTally, bitOf, raised, lowered, oneMore, oneLess, entered, removed, revalued, atPointer, freeFrom, freeOf}
-use Rattle.lists.specs.List.{noTally}
+use Rattle.lists.specs.inner.Judging.{spentOf}
 use Rattle.lists.specs.Entries.{recoded, recodedAt, without}
 use Rattle.lists.specs.declared.list.Entry.{Entry}
 use Rattle.lists.specs.declared.tally.Positions.{Positions}
 use Rattle.lists.specs.declared.tally.Tally.{Tally}
-use Rattle.lists.proofs.Judging.{half}
+use Rattle.lists.proofs.Masks.{bit-most, mask-bit, mask-same, mask-kept, mask-raised, mask-lowered, mask-split, mask-low}
 
 -- Positions and tallies are the same where all their numbers are.
 alike : (a b : Positions) → a .used ≡ b .used → a .spent ≡ b .spent → a ≡ b
@@ -38,99 +37,6 @@ same-tally a b h =
 
 pub same-self : (a : Tally) → sameTally a a ≡ true
 same-self a = rw (eq-eqb (a .counter .used) _ refl, eq-eqb (a .counter .spent) _ refl, eq-eqb (a .plain .used) _ refl, eq-eqb (a .plain .spent) _ refl)
-
-pub tally-none : (c : ℕ) → tallyOf c [] ≡ noTally
-unfolding tallyOf
-tally-none c = simp and-false
-
--- A bit is at most 1.
-bit-most : (t : Bool) → bit t ≤ 1
-bit-most true = omega arith
-bit-most false = omega arith
-
--- A bit of a mask is its pointer's test.
-mask-get : (n k p : ℕ) (f : ℕ → Bool) → k < n → odd (mask n p f / 2 ^ k) ≡ f (p + k)
-mask-get zero k p f h = absurd (omega arith)
-mask-get (suc n) zero p f h = let here : p + 0 ≡ p = omega arith in rw here (go (f p) (mask n (suc p) f))
-  where
-    go : (t : Bool) (m : ℕ) → odd ((bit t + 2 * m) / 2 ^ 0) ≡ t
-    go true m = let one : (1 + 2 * m) / 2 ^ 0 % 2 ≡ 1 = omega arith in rw one
-    go false m = let none : (0 + 2 * m) / 2 ^ 0 % 2 ≡ 0 = omega arith in rw none
-mask-get (suc n) (suc k) p f h =
-    let down : (bit (f p) + 2 * mask n (suc p) f) / 2 ≡ mask n (suc p) f = omega (arith, bit-most (f p)) in
-    let up : suc p + k ≡ p + suc k = omega arith in
-    rw (half (mask (suc n) p f) k, down, ← up) (mask-get n k (suc p) f (omega arith))
-
-mask-bit : (n q : ℕ) (f : ℕ → Bool) → 1 ≤ q → q ≤ n → odd (mask n 1 f / 2 ^ (q - 1)) ≡ f q
-mask-bit n q f low high = let up : 1 + (q - 1) ≡ q = omega arith in rw up at (mask-get n (q - 1) 1 f (omega arith))
-
--- Tests that agree give the same mask;
-mask-same : (n p : ℕ) (f g : ℕ → Bool) → ((q : ℕ) → p ≤ q → q < p + n → f q ≡ g q) → mask n p f ≡ mask n p g
-mask-same zero p f g same = refl
-mask-same (suc n) p f g same =
-    rw (same p (omega arith) (omega arith), mask-same n (suc p) f g (λ q low high. same q (omega arith) (omega arith)))
-
--- and those that agree but at a pointer, masks that differ by its bit.
-mask-more : (n p q : ℕ) (f g : ℕ → Bool) → p ≤ q → q < p + n → f q ≡ false → g q ≡ true → ((r : ℕ) → (r ≡ q → ⊥) → f r ≡ g r)
-    → mask n p g ≡ mask n p f + 2 ^ (q - p)
-mask-more zero p q f g low high off on same = absurd (omega arith)
-mask-more (suc n) p q f g low high off on same = go (eqb p q) refl (mask-more n (suc p) q f g)
-  where
-    go : (t : Bool) → eqb p q ≡ t
-        → (suc p ≤ q → q < suc p + n → f q ≡ false → g q ≡ true → ((r : ℕ) → (r ≡ q → ⊥) → f r ≡ g r) → mask n (suc p) g ≡ mask n (suc p) f + 2 ^ (q - suc p))
-        → bit (g p) + 2 * mask n (suc p) g ≡ bit (f p) + 2 * mask n (suc p) f + 2 ^ (q - p)
-    go true e rest =
-        let here : p ≡ q = eqb-true p q e in
-        let own : q - p ≡ 0 = omega arith in
-        rw (own, here, off, on, mask-same n (suc q) f g (λ r low high. same r (λ e. omega arith))) (omega arith)
-    go false e rest =
-        let other : p ≡ q → ⊥ = eqb-false p q e in
-        let down : q - p ≡ suc (q - suc p) = omega arith in
-        rw (same p other, down, pow-succ' 2 (q - suc p)) (omega (arith, rest (omega arith) (omega arith) off on same))
-
--- The pointers that have a bit.
-pub inside : (n q : ℕ) → leb 1 q && leb q n ≡ true → (1 ≤ q) × (q ≤ n)
-inside n q e = let (low, high) = both (leb 1 q) _ e in (leb-true _ _ low, leb-true _ _ high)
-
--- A mask with one pointer's test changed has that bit raised or lowered.
-module _ (n q : ℕ) (f g : ℕ → Bool) (same : (r : ℕ) → (r ≡ q → ⊥) → f r ≡ g r) where
-  mask-kept : f q ≡ g q → mask n 1 g ≡ mask n 1 f
-  mask-kept here = mask-same n 1 g f (λ r low high. go r (eqb r q) refl)
-    where
-      go : (r : ℕ) (t : Bool) → eqb r q ≡ t → g r ≡ f r
-      go r true e = rw (eqb-true r q e) (sym here)
-      go r false e = sym (same r (eqb-false r q e))
-
-  mask-outside : leb 1 q && leb q n ≡ false → mask n 1 g ≡ mask n 1 f
-  mask-outside out =
-      mask-same n 1 g f (λ r low high.
-      sym (same r (λ here.
-      let first : leb 1 q ≡ true = le-leb 1 q (omega arith) in
-      let last : leb q n ≡ true = le-leb q n (omega arith) in
-      true≢false (rw (first, last) at out))))
-
-  bit-inside : leb 1 q && leb q n ≡ true → odd (mask n 1 f / 2 ^ (q - 1)) ≡ f q
-  bit-inside e = let (low, high) = inside n q e in mask-bit n q f low high
-
-  mask-raised : g q ≡ true → mask n 1 g ≡ pick (leb 1 q && leb q n && not (odd (mask n 1 f / 2 ^ (q - 1)))) (mask n 1 f + 2 ^ (q - 1)) (mask n 1 f)
-  mask-raised on = go (leb 1 q && leb q n) refl (f q) refl
-    where
-      go : (t : Bool) → leb 1 q && leb q n ≡ t → (b : Bool) → f q ≡ b
-          → mask n 1 g ≡ pick (t && not (odd (mask n 1 f / 2 ^ (q - 1)))) (mask n 1 f + 2 ^ (q - 1)) (mask n 1 f)
-      go false out b h = mask-outside out
-      go true e true h = rw (bit-inside e ∙ h) (mask-kept (h ∙ sym on))
-      go true e false h = let (low, high) = inside n q e in rw (bit-inside e ∙ h) (mask-more n 1 q f g low (omega arith) h on same)
-
-  mask-lowered : g q ≡ false → mask n 1 g ≡ pick (leb 1 q && leb q n && odd (mask n 1 f / 2 ^ (q - 1))) (mask n 1 f - 2 ^ (q - 1)) (mask n 1 f)
-  mask-lowered off = go (leb 1 q && leb q n) refl (f q) refl
-    where
-      go : (t : Bool) → leb 1 q && leb q n ≡ t → (b : Bool) → f q ≡ b
-          → mask n 1 g ≡ pick (t && odd (mask n 1 f / 2 ^ (q - 1))) (mask n 1 f - 2 ^ (q - 1)) (mask n 1 f)
-      go false out b h = mask-outside out
-      go true e true h =
-          let (low, high) = inside n q e in
-          rw (bit-inside e ∙ h) (omega (arith, mask-more n 1 q g f low (omega arith) off h (λ r other. sym (same r other))))
-      go true e false h = rw (bit-inside e ∙ h) (mask-kept (h ∙ sym off))
 
 -- A tally changes by the positions of a pointer's kind, if a fresh count of these does, and one of the other kind does not.
 at-pointer : (c q : ℕ) (change : Positions → Positions) (es fs : List Entry)
@@ -369,15 +275,6 @@ pub free-count : (kind : ℕ → Bool) (es : List Entry) (above last : ℕ) → 
 free-count kind es above last own =
     free-same above last (positions kind es .used) kind (inUse es) (used-bit kind es) own 8 1 (omega arith) (omega arith)
 
--- A bit that a number of w bits lacks can be added in these.
-pub bit-fits : (w u p : ℕ) → p < w → u / 2 ^ p % 2 ≡ 0 → u < 2 ^ w → u + 2 ^ p < 2 ^ w
-bit-fits zero u p small off fits = absurd (omega arith)
-bit-fits (suc w) u zero small off fits = rw (pow-succ' 2 w) (omega (arith, rw (pow-succ' 2 w) at fits))
-bit-fits (suc w) u (suc p) small off fits =
-    let under : u < 2 * 2 ^ w = rw (pow-succ' 2 w) at fits in
-    let rest : u / 2 + 2 ^ p < 2 ^ w = bit-fits w (u / 2) p (omega arith) (rw (half u p) at off) (omega arith) in
-    rw (pow-succ' 2 w, pow-succ' 2 p) (omega arith)
-
 -- To change the positions of a pointer's kind is to put what comes of them in their place.
 pub put-own : {r : Tally} {old new : Positions} (c pointer : ℕ) (change : Positions → Positions) (t : Tally)
     → old ≡ pick (leb pointer c) (t .counter) (t .plain) → new ≡ change old → r ≡ atPointer c pointer (λ was. new) t
@@ -408,3 +305,39 @@ free-turn above last used k more =
     let down : k + 1 - 1 ≡ k = omega arith in
     let next : suc (k + 1) ≡ k + 1 + 1 = omega arith in
     rw (up, down, next, even (used / 2 ^ k))
+
+-- Entries counted in one: their pointers in a mask, those used up, and those of them on counter positions.
+among-in-use : (es : List Entry) (p : ℕ) → among p (map (λ (e : Entry). e .pointer) es) ≡ inUse es p
+among-in-use [] p = refl
+among-in-use (e ∷ es) p = ap (λ (t : Bool). eqb (e .pointer) p || t) (among-in-use es p)
+
+many-split : (kind test : Entry → Bool) (es : List Entry) → howMany (λ e. kind e && test e) es + howMany (λ e. not (kind e) && test e) es ≡ howMany test es
+many-split kind test [] = refl
+many-split kind test (e ∷ es) = omega (arith, many-split kind test es, go (kind e) (test e))
+  where
+    go : (k t : Bool) → bit (k && t) + bit (not k && t) ≡ bit t
+    go true t = omega arith
+    go false t = omega arith
+
+module _ (c : ℕ) (es : List Entry) where
+  pub spent-few : spentOf c es .counter ≤ spentOf c es .all
+  spent-few = omega (arith, many-split (λ e. leb (e .pointer) c) usedUp es)
+
+  pub tally-counted : (used : ℕ) → used ≡ mask 8 1 (λ p. among p (map (λ (e : Entry). e .pointer) es))
+      → record {
+        counter = record { used = used % 2 ^ c; spent = spentOf c es .counter };
+        plain = record { used = used - used % 2 ^ c; spent = spentOf c es .all - spentOf c es .counter };
+      }
+      ≡ tallyOf c es
+  unfolding tallyOf
+  tally-counted used same =
+      let all : used ≡ mask 8 1 (inUse es) = same ∙ mask-same 8 1 _ (inUse es) (λ p low high. among-in-use es p) in
+      let low : used % 2 ^ c ≡ mask 8 1 (λ p. leb p c && inUse es p) = rw all (sym (mask-low 8 c (inUse es))) in
+      let rest : used - used % 2 ^ c ≡ mask 8 1 (λ p. not (leb p c) && inUse es p) =
+      rw low (omega (arith, all, mask-split 8 1 (λ p. leb p c) (inUse es))) in
+      both-kinds (alike _ _ low refl) (alike _ _ rest (omega (arith, many-split (λ e. leb (e .pointer) c) usedUp es)))
+
+  -- One entry more.
+  pub spent-more : (e : Entry)
+      → record { all = spentOf c es .all + bit (usedUp e); counter = spentOf c es .counter + bit (leb (e .pointer) c && usedUp e) } ≡ spentOf c (es ++ (e ∷ []))
+  spent-more e = rw (many-more usedUp es e, many-more (λ x. leb (x .pointer) c && usedUp x) es e)

@@ -6,15 +6,17 @@ ghost use lib.ListN.{length};
 ghost use Rattle.rows.specs.inner.Step.{Ready, Drafted};
 ghost use Rattle.rows.specs.inner.Line.{start, Puts};
 ghost use Rattle.rows.specs.table.BestContracts.{entry, contractList};
-ghost use Rattle.lists.specs.inner.Steps.{EntryTook, RestTook, EntryGave};
+ghost use Rattle.lists.specs.inner.Steps.{obeyed, tallied, EntryTook, RestTook, EntryGave};
+ghost use Rattle.lists.specs.inner.Judging.{Recounts};
 ghost use Rattle.bits.specs.Bits.{bit};
 ghost use Rattle.lists.specs.List.{entryNumbers, numbersOf, outside, listFault, listRead, listWritten, noList, fair};
 ghost use Rattle.lists.specs.Entries.{counted, withPriority, appended, withoutPointer};
-ghost use Rattle.lists.specs.Tally.{usedUp, tallyOf, freeOf};
+ghost use Rattle.lists.specs.Tally.{usedUp, freeOf};
 ghost use Rattle.records.specs.Answer.{Written};
 use crate::rules;
 use crate::rules::COUNT_BITS;
 use crate::rules::Judged;
+use crate::tally::Spent;
 use crate::tally::Tally;
 use records::BITS;
 use records::BYTES;
@@ -210,27 +212,22 @@ impl ContractList {
         self
     }
 
-    // A fresh count of the entries.
-    fn recounted(self, c: u32) -> Tally
-        ensures { λ r. ⌜ r ≡ tallyOf c (counted self) ⌝ }
+    // A fresh count of the entries, and how they keep the rule.
+    fn recounted(self, n: u32, c: u32) -> Recount
+        requires { ⌜ n ≤ 8 ⌝ }
+        ensures { λ r. ⌜ Recounts n c (counted self) r ⌝ }
     {
-        let n = self.len();
-        let mut tally = Tally::NONE;
+        let len = self.len();
+        let mut judged = Judged::NONE;
+        let mut spent = Spent::NONE;
         let mut i = 0;
-        while i < n {
+        while i < len {
             let entry = self.entries[i];
-            tally = tally.with(c, entry.pointer, entry.priority);
             i += 1;
+            spent = spent.with(c, entry.pointer, entry.priority);
+            judged = judged.with(i as u32, entry.bitmap, entry.pointer, Entry::FULL, n);
         }
-        tally
-    }
-
-    // Whether the tally is a fresh count.
-    fn is_fair(self, c: u32) -> bool
-        ensures { λ r. ⌜ r ≡ fair c self ⌝ }
-    {
-        let tally = self.tally;
-        tally.equals(self.recounted(c))
+        Recount { judged, spent }
     }
 
     // How many counter positions are free, on a card with c of them.
@@ -274,6 +271,12 @@ impl ContractList {
     }
 }
 
+// What the rule and the tally ask of a list's entries.
+struct Recount {
+    judged: Judged,
+    spent: Spent,
+}
+
 // An entry's numbers, and the cursor behind it.
 struct EntryTaken {
     entry: Entry,
@@ -315,8 +318,8 @@ pub fn read(bytes: &[u8], n: u32, c: u32) -> ListRead
     let count = head.number;
     let mut list = ContractList::NONE;
     list.count = count;
-    let mut tally = Tally::NONE;
-    let mut judged = Judged::start(n);
+    let mut judged = Judged::NONE;
+    let mut spent = Spent::NONE;
     let mut last = head;
     let mut k = 0;
     while k < count {
@@ -327,15 +330,15 @@ pub fn read(bytes: &[u8], n: u32, c: u32) -> ListRead
             return refused(Refusal::met(last));
         }
         list.entries[k as usize] = entry;
-        tally = tally.with(c, entry.pointer, entry.priority);
         k += 1;
-        judged = judged.with(k, entry.bitmap, entry.pointer, Entry::FULL);
+        spent = spent.with(c, entry.pointer, entry.priority);
+        judged = judged.with(k, entry.bitmap, entry.pointer, Entry::FULL, n);
     }
     let end = rules::obeyed(take::end(&words, BITS, last), judged.fault);
     if end.why != 0 {
         return refused(Refusal::met(end));
     }
-    list.tally = tally;
+    list.tally = spent.tally(c, judged.used);
     ListRead {
         refusal: Refusal::NONE,
         list,
@@ -416,35 +419,6 @@ fn take_rest(words: &[u64], c: Cursor, marks: u32) -> RestTaken
     }
 }
 
-// The number of the first entry that breaks the list rule, or 0.
-fn at_fault(list: ContractList, n: u32) -> u32
-    requires { ⌜ n ≤ 8 ⌝ }
-    ensures { λ r. ⌜ r ≡ listFault n (numbersOf list) ⌝ }
-{
-    let es = list.entries;
-    let bitmaps = [
-        es[0].bitmap,
-        es[1].bitmap,
-        es[2].bitmap,
-        es[3].bitmap,
-        es[4].bitmap,
-        es[5].bitmap,
-        es[6].bitmap,
-        es[7].bitmap,
-    ];
-    let pointers = [
-        es[0].pointer,
-        es[1].pointer,
-        es[2].pointer,
-        es[3].pointer,
-        es[4].pointer,
-        es[5].pointer,
-        es[6].pointer,
-        es[7].pointer,
-    ];
-    rules::first_at_fault(&bitmaps, &pointers, list.count, Entry::FULL, n)
-}
-
 // Writes a contract list to a lent record, all of it; refused, the record is as it was.
 pub fn write(bytes: &mut [u8], n: u32, c: u32, list: ContractList) -> Refusal
     ensures { λ r. ⌜ record { answer = r; bytes = now (bytes .exit) } ≡ listWritten n c list (now (bytes .entry)) ⌝ }
@@ -457,9 +431,25 @@ pub fn write(bytes: &mut [u8], n: u32, c: u32, list: ContractList) -> Refusal
     }
     let mut draft = [0u64; 9];
     let end = put_list(&mut draft, n, list);
-    let last = rules::fair(rules::obeyed(end, at_fault(list, n)), list.is_fair(c));
+    let last = held(end, list, n, c);
     put::end(&draft, last, bytes);
     Refusal::met(last)
+}
+
+// The cursor after the rule and the tally. Only of entries that keep the rule the mask is that of their pointers.
+fn held(end: Cursor, list: ContractList, n: u32, c: u32) -> Cursor
+    requires { ⌜ (n ≤ 8) × (c ≤ 8) ⌝ }
+    ensures { λ d. ⌜ d ≡ tallied (obeyed end (listFault n (numbersOf list))) (fair c list) ⌝ }
+{
+    let recount = list.recounted(n, c);
+    let judged = recount.judged;
+    let spent = recount.spent;
+    let ruled = rules::obeyed(end, judged.fault);
+    if ruled.why != 0 {
+        return ruled;
+    }
+    let tally = list.tally;
+    rules::fair(ruled, tally.equals(spent.tally(c, judged.used)))
 }
 
 fn put_entry(draft: &mut [u64], c: Cursor, count: u32, k: u32, e: Entry) -> Cursor

@@ -13,39 +13,32 @@ pub const COUNT_BITS: u32 = 4;
 
 // How the entries so far keep the rule.
 pub struct Judged {
-    pub free: u32, // the pointers that the next entry may have, bit p for pointer p
+    pub used: u32, // their pointers, bit pointer - 1
     pub fault: u32, // the number, from 1, of the first entry that does not keep the rule, or 0
 }
 
 impl Judged {
-    // Before the first entry: pointers from 1 to a limit.
-    pub fn start(limit: u32) -> Judged
-        requires { ⌜ limit ≤ 8 ⌝ }
-        ensures { λ r. ⌜ ((full : ℕ) → Judges full limit [] [] r) ⌝ }
-    {
-        Judged {
-            free: (2u32 << limit) - 2,
-            fault: 0,
-        }
-    }
+    pub const NONE: Judged = Judged { used: 0, fault: 0 };
 
-    // With entry k, counted from 1.
-    pub fn with(self, k: u32, bitmap: u32, pointer: u32, full: u32) -> Judged
-        ensures { λ r. ⌜ ((limit : ℕ) (bs ps : List ℕ) → Judges full limit bs ps self → k ≡ suc (length ps) → Judges full limit (bs ++ (bitmap ∷ [])) (ps ++ (pointer ∷ [])) r) ⌝ }
+    // With entry k, counted from 1; pointers are from 1 to a limit.
+    pub fn with(self, k: u32, bitmap: u32, pointer: u32, full: u32, limit: u32) -> Judged
+        requires { ⌜ limit ≤ 8 ⌝ }
+        ensures { λ r. ⌜ ((bs ps : List ℕ) → Judges full limit bs ps self → k ≡ suc (length ps) → Judges full limit (bs ++ (bitmap ∷ [])) (ps ++ (pointer ∷ [])) r) ⌝ }
     {
         if self.fault != 0 {
             return self;
         }
-        if (bitmap / 2 == full) & (pointer < 32) {
-            if (self.free >> pointer) % 2 == 1 {
+        if (bitmap / 2 == full) & (1 <= pointer) & (pointer <= limit) {
+            let place = pointer - 1;
+            if (self.used >> place) % 2 == 0 {
                 return Judged {
-                    free: self.free - (1u32 << pointer),
+                    used: self.used + (1u32 << place),
                     fault: 0,
                 };
             }
         }
         Judged {
-            free: self.free,
+            used: self.used,
             fault: k,
         }
     }
@@ -57,13 +50,13 @@ pub fn first_at_fault(bitmaps: &[u32], pointers: &[u32], count: u32, full: u32, 
     ensures { λ r. ⌜ r ≡ firstAtFault full limit (take count (now (bitmaps .entry))) (take count (now (pointers .entry))) ⌝ }
 {
     let n = count as usize;
-    let mut judged = Judged::start(limit);
+    let mut judged = Judged::NONE;
     let mut k = 0;
     while k < bitmaps.len() {
         if k == n {
             return judged.fault;
         }
-        judged = judged.with(k as u32 + 1, bitmaps[k], pointers[k], full);
+        judged = judged.with(k as u32 + 1, bitmaps[k], pointers[k], full, limit);
         k += 1;
     }
     judged.fault

@@ -1,8 +1,10 @@
 // What a contract list keeps of its entries, for counter and for plain positions: which pointers are in use, how many entries are
 // used up. A pointer is a counter position where it is at most c.
 ghost use mathlib.Core.Path.{_≡_};
-ghost use Prim.Native.Nat.{_-_};
-ghost use lib.Dec.{leb};
+ghost use mathlib.Core.Bool.{_&&_};
+ghost use Prim.Native.Nat.{_+_, _-_, _%_, _^_, _≤_, _<_};
+ghost use lib.Dec.{eqb, leb};
+ghost use Rattle.bits.specs.Bits.{bit};
 ghost use Rattle.rows.specs.Row.{pick};
 ghost use Rattle.lists.specs.Tally.{sameTally, raised, lowered, oneMore, oneLess, entered, removed, revalued, atPointer, freeOf};
 use crate::list::ContractList;
@@ -134,6 +136,52 @@ impl Tally {
             & (self.counter.spent == other.counter.spent)
             & ((self.plain.used == other.plain.used) & (self.plain.spent == other.plain.spent))
     }
+}
+
+// How many of some entries are used up, and how many of those are on counter positions.
+pub(crate) struct Spent {
+    pub(crate) all: u32,
+    pub(crate) counter: u32,
+}
+
+impl Spent {
+    pub(crate) const NONE: Spent = Spent { all: 0, counter: 0 };
+
+    // With an entry more.
+    pub(crate) fn with(self, c: u32, pointer: u32, priority: u32) -> Spent
+        requires { ⌜ (self .all < 8) × (self .counter < 8) ⌝ }
+        ensures { λ r. ⌜ r ≡ record { all = self .all + bit (eqb priority 15); counter = self .counter + bit (leb pointer c && eqb priority 15) } ⌝ }
+    {
+        let spent = priority == Entry::ERASABLE;
+        Spent {
+            all: self.all + one(spent),
+            counter: self.counter + one((pointer <= c) & spent),
+        }
+    }
+
+    // The tally of these entries, of which this is the mask of pointers.
+    pub(crate) fn tally(self, c: u32, used: u32) -> Tally
+        requires { ⌜ (c ≤ 8) × (self .counter ≤ self .all) ⌝ }
+        ensures { λ r. ⌜ r ≡ record { counter = record { used = used % 2 ^ c; spent = self .counter }; plain = record { used = used - used % 2 ^ c; spent = self .all - self .counter } } ⌝ }
+    {
+        let counter = used % (1u32 << c);
+        Tally {
+            counter: Positions {
+                used: counter,
+                spent: self.counter,
+            },
+            plain: Positions {
+                used: used - counter,
+                spent: self.all - self.counter,
+            },
+        }
+    }
+}
+
+fn one(yes: bool) -> u32
+    ensures { λ r. ⌜ r ≡ bit yes ⌝ }
+{
+    if yes { 1 } else { 0 }
 }
 
 // The mask with a pointer's bit raised. A pointer that no card has, has none.

@@ -21,18 +21,18 @@ returns-2 c =
     let a = c .before .before .before .before .args in
     fairly-unwritten (listFault (a .n)) _ _ _ _ (fair (a .c) (a .list)) _ refl (list-unwritten-outside (listFault (a .n)) _ _ _ _ (c .before .before .if1 .left) (rw (c .before .outside .ensures) at (c .if2 .taken)))
 
-at-fault-requires : tie.Need-at-fault-requires
-at-fault-requires c κs = inside-limits _ (c .before .before .before .before .before .before .before .args .c) (rw (c .before .before .before .before .outside .ensures) at (c .before .before .before .if2 .left)) .0 .1
+held-requires : tie.Need-held-requires
+held-requires c κs =
+    let limits = inside-limits _ (c .before .before .before .before .before .before .before .args .c) (rw (c .before .before .before .before .outside .ensures) at (c .before .before .before .if2 .left)) in
+    (limits .0 .1, omega (arith, limits))
 
 returns-3 : tie.Need-returns-3
 unfolding contractList
 returns-3 c =
-    let a = c .before .before .before .before .before .before .before .before .before .before .before .before .before .before .before .before .before .args in
-    let inside = rw (c .before .before .before .before .before .before .before .before .before .before .before .before .before .before .outside .ensures) at (c .before .before .before .before .before .before .before .before .before .before .before .before .before .if2 .left) in
-    let ruled = rw (c .before .before .before .before .before .before .before .before .before .at-fault .ensures) at (c .before .before .before .before .before .before .before .before .obeyed .ensures) in
-    let last = rw (c .before .before .before .before .before .before .before .is-fair .ensures) at (c .before .before .before .before .before .before .fair .ensures) in
+    let a = c .before .before .before .before .before .before .before .before .before .before .before .before .before .before .args in
+    let inside = rw (c .before .before .before .before .before .before .before .before .before .before .before .outside .ensures) at (c .before .before .before .before .before .before .before .before .before .before .if2 .left) in
     rw (c .met .ensures)
-    (list-tallied (listFault (a .n)) _ (contractList (a .n)) _ _ _ _ _ _ _ (omega (arith, list-rows (a .n))) (c .before .before .before .before .before .before .before .before .before .before .before .before .before .before .before .if1 .left) inside refl refl (c .before .before .before .before .before .before .before .before .before .before .before .put-list .ensures) ruled (fair (a .c) (a .list)) _ last (c .before .before .before .end .ensures))
+    (list-tallied (listFault (a .n)) _ (contractList (a .n)) _ _ _ _ _ _ _ (omega (arith, list-rows (a .n))) (c .before .before .before .before .before .before .before .before .before .before .before .before .if1 .left) inside refl refl (c .before .before .before .before .before .before .before .before .put-list .ensures) refl (fair (a .c) (a .list)) _ (c .before .before .before .before .before .before .held .ensures) (c .before .before .before .end .ensures))
 
 pub write-spec : {M : Type 1} → statement M
 write-spec =
@@ -43,10 +43,7 @@ write-spec =
     returns-2
     (λ c. search needs)
     (λ c κs. search needs)
-    at-fault-requires
-    (λ c κs. search needs)
-    (λ c κs. search needs)
-    (λ c κs. search needs)
+    held-requires
     (λ c. search needs)
     (λ c κs. search needs)
     (λ c κs. search needs)

@@ -1,8 +1,7 @@
 use Prim.Native.Nat.{_-_}
 use native.Mathlib.Omega.{arith}
 use borrow.Author.Tests.{ne-eqb}
-use Rattle.lists.proofs.Judging.{shifted, bit-le}
-use Rattle.lists.proofs.Tallying.{inside}
+use Rattle.lists.proofs.Masks.{shifted, bit-le, inside}
 use Rattle.lists.proofs.tally.lowered.Statement.{statement}
 use Rattle.lists.proofs.tally.lowered.Tie as tie
 

@@ -1,8 +1,7 @@
 use Prim.Native.Nat.{_-_, _/_, _%_, _^_}
 use mathlib.Core.Path.{_≡_}
 use native.Mathlib.Omega.{arith}
-use Rattle.lists.proofs.Judging.{shifted}
-use Rattle.lists.proofs.Tallying.{inside, bit-fits}
+use Rattle.lists.proofs.Masks.{shifted, inside, bit-fits}
 use Rattle.lists.proofs.tally.raised.Statement.{statement}
 use Rattle.lists.proofs.tally.raised.Tie as tie
 

@@ -9,7 +9,8 @@ use Rattle.lists.specs.List.{entryOf}
 use Rattle.lists.specs.Entries.{counted}
 use Rattle.lists.specs.Tally.{usedUp}
 use Rattle.lists.proofs.Listing.{length-of-map}
-use Rattle.lists.proofs.Entries.{length-counted, Thinning, thinning-start, thinning-out, thinning-kept, thinned, gone-few, bit-most, Clearing, clearing-start, clearing-more, clearing-all}
+use Rattle.lists.proofs.Masks.{bit-most}
+use Rattle.lists.proofs.Entries.{length-counted, Thinning, thinning-start, thinning-out, thinning-kept, thinned, gone-few, Clearing, clearing-start, clearing-more, clearing-all}
 use Rattle.lists.proofs.list.ContractList.without.Statement.{statement}
 use Rattle.lists.proofs.list.ContractList.without.Tie as tie
 
@@ -35,7 +36,7 @@ loop-holds c =
 add-gone : tie.Need-add-gone Inv-loop μ-loop Inv-loop2 μ-loop2
 add-gone c =
     let loop = c .before .before .before .before .before .loop in
-    omega (arith, gone-few (loop .inv .2), loop .inv .0, loop .inv .1, bit-most (usedUp (getD (loop .self .entries) (loop .i) (entryOf [] 0))) (c .used-up .ensures))
+    omega (arith, gone-few (loop .inv .2), loop .inv .0, loop .inv .1, bit-most (usedUp (getD (loop .self .entries) (loop .i) (entryOf [] 0))), c .used-up .ensures)
 
 loop-again : tie.Need-loop-again Inv-loop μ-loop Inv-loop2 μ-loop2
 loop-again c =
