@@ -24,7 +24,7 @@ abbrev pub howMany : (Entry → Bool) → List Entry → ℕ
 howMany test [] = 0
 howMany test (e ∷ es) = bit (test e) + howMany test es
 
--- The mask of those that pass a test of n pointers from one on, whose bit is the lowest.
+-- The mask of those that pass a test, of n pointers from one on: the first one's bit is the lowest.
 abbrev pub mask : ℕ → ℕ → (ℕ → Bool) → ℕ
 mask zero pointer test = 0
 mask (suc n) pointer test = bit (test pointer) + 2 * mask n (suc pointer) test

@@ -114,16 +114,6 @@ impl Entry {
         }
     }
 
-    // 1 where it is used up, else 0.
-    fn used_up(self) -> u32
-        ensures { λ r. ⌜ r ≡ bit (usedUp self) ⌝ }
-    {
-        if self.priority == Entry::ERASABLE {
-            return 1;
-        }
-        0
-    }
-
     pub fn with_network(network: u32, key: u32, kind: u32, priority: u32, pointer: u32) -> Entry
         ensures { λ r. ⌜ r ≡ record { bitmap = 7; network = network; key = key; kind = kind; priority = priority; pointer = pointer } ⌝ }
     {
@@ -135,6 +125,16 @@ impl Entry {
             priority,
             pointer,
         }
+    }
+
+    // 1 where it is used up, else 0.
+    fn used_up(self) -> u32
+        ensures { λ r. ⌜ r ≡ bit (usedUp self) ⌝ }
+    {
+        if self.priority == Entry::ERASABLE {
+            return 1;
+        }
+        0
     }
 }
 
