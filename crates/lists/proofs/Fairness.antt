@@ -24,7 +24,7 @@ use Rattle.lists.specs.declared.rules.Judged.{Judged}
 use Rattle.lists.specs.declared.tally.Spent.{Spent}
 use Rattle.lists.specs.declared.tally.Tally.{Tally}
 use Rattle.lists.proofs.Judging.{Turned, judges-none, judges-more}
-use Rattle.lists.proofs.Tallying.{many-most, vacancies, free-count, tally-entered, tally-removed, tally-recoded, tally-counted, spent-few, spent-more}
+use Rattle.lists.proofs.Tallying.{vacancies, free-count, tally-entered, tally-removed, tally-recoded, tally-counted, spent-few, spent-below, spent-more}
 use Rattle.lists.proofs.Entries.{length-counted, length-without, filled, counted-filled, filled-more}
 use Rattle.lists.proofs.list.Laws.{Fair, fault-list}
 
@@ -137,12 +137,7 @@ module _ (n c : ℕ) (l : ContractList) (eight : length (l .entries) ≡ 8) (i :
     long = length-take-le i (counted l) (omega arith)
 
     pub recount-few : (s .all < 8) × (s .counter < 8)
-    recount-few =
-        let most = length-counted l eight in
-        rw (so .spent) (
-          omega (arith, many-most usedUp (take i (counted l)), long, more, most),
-          omega (arith, many-most (λ e. leb (e .pointer) c && usedUp e) (take i (counted l)), long, more, most),
-        )
+    recount-few = rw (so .spent) (spent-below c (take i (counted l)) (omega (arith, long, length-counted l eight)))
 
     pub recount-more : (d : Entry) (i′ : Judged) (t : Spent)
         → t ≡ record { all = s .all + bit (usedUp (getD (l .entries) i d)); counter = s .counter + bit (leb (getD (l .entries) i d .pointer) c && usedUp (getD (l .entries) i d)) }

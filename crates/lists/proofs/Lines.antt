@@ -40,7 +40,7 @@ use Rattle.lists.specs.declared.tally.Spent.{Spent}
 use Rattle.lists.specs.declared.tally.Tally.{Tally}
 use Rattle.lists.proofs.Rowing.{rowsFrom, rows-split, rows-more, flat, flat-append, seen-long, seen-more}
 use Rattle.lists.proofs.Judging.{Turned, judges-none, judges-more}
-use Rattle.lists.proofs.Tallying.{many-most, tally-counted, spent-few, spent-more}
+use Rattle.lists.proofs.Tallying.{tally-counted, spent-few, spent-below, spent-more}
 use Rattle.lists.proofs.Kept.{inside-limits}
 use Rattle.lists.proofs.list.Laws.{bitmaps, pointers, fault-list, list-of-numbers}
 use Rattle.lists.proofs.Listing.{obeyed-none, list-read, list-refused}
@@ -244,12 +244,8 @@ module _ {bytes : List ℕ} {n counters : ℕ} {words : List ℕ} {count : ℕ} 
 
   pub sofar-few : k < count → (s .all < 8) × (s .counter < 8)
   sofar-few more =
-      let passed = take k (l .entries) in
-      let long : length passed ≡ k = length-take-le k (l .entries) (rw (so .eight) few-taken) in
-      rw (so .spends) (
-        omega (arith, many-most usedUp passed, so .few),
-        omega (arith, many-most (λ e. leb (e .pointer) counters && usedUp e) passed, so .few),
-      )
+      let long : length (take k (l .entries)) ≡ k = length-take-le k (l .entries) (rw (so .eight) few-taken) in
+      rw (so .spends) (spent-below counters (take k (l .entries)) (omega (arith, long, so .few)))
 
   pub sofar-ready : (counters ≤ 8) × (s .counter ≤ s .all)
   sofar-ready = (omega (arith, inside-limits n counters (so .inside)), rw (so .spends) (spent-few counters (take k (l .entries))))

@@ -1,7 +1,7 @@
 -- The tally of a list: what the methods do to it is what a fresh count gives.
 use Prim.Native.Nat.{ℕ, zero, suc, _+_, _-_, _/_, _%_, _^_, _≤_, _<_}
 use mathlib.Core.List.{List, [], _∷_, _++_, map}
-use mathlib.Core.Bool.{Bool, true, false, not, _&&_, _||_, and-false, or-false, or-true, or-assoc}
+use mathlib.Core.Bool.{Bool, true, false, not, _&&_, _||_, or-false, or-true, or-assoc}
 use mathlib.Core.Path.{_≡_, refl, sym, ap, _∙_}
 use native.Mathlib.Omega.{arith}
 use lib.Dec.{eqb, ltb, leb}
@@ -307,7 +307,7 @@ free-turn above last used k more =
     rw (up, down, next, even (used / 2 ^ k))
 
 -- Entries counted in one: their pointers in a mask, those used up, and those of them on counter positions.
-among-in-use : (es : List Entry) (p : ℕ) → among p (map (λ (e : Entry). e .pointer) es) ≡ inUse es p
+pub among-in-use : (es : List Entry) (p : ℕ) → among p (map (λ (e : Entry). e .pointer) es) ≡ inUse es p
 among-in-use [] p = refl
 among-in-use (e ∷ es) p = ap (λ (t : Bool). eqb (e .pointer) p || t) (among-in-use es p)
 
@@ -322,6 +322,9 @@ many-split kind test (e ∷ es) = omega (arith, many-split kind test es, go (kin
 module _ (c : ℕ) (es : List Entry) where
   pub spent-few : spentOf c es .counter ≤ spentOf c es .all
   spent-few = omega (arith, many-split (λ e. leb (e .pointer) c) usedUp es)
+
+  pub spent-below : length es < 8 → (spentOf c es .all < 8) × (spentOf c es .counter < 8)
+  spent-below few = (omega (arith, many-most usedUp es), omega (arith, many-most (λ e. leb (e .pointer) c && usedUp e) es))
 
   pub tally-counted : (used : ℕ) → used ≡ mask 8 1 (λ p. among p (map (λ (e : Entry). e .pointer) es))
       → record {

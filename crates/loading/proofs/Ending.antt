@@ -1,7 +1,7 @@
 -- From each way out of loading's code to what loading means.
 use Prim.Native.Nat.{ℕ, suc, _*_, _/_, _≤_, _<_}
-use mathlib.Core.Bool.{Bool, true, false, not, _||_}
-use mathlib.Core.List.{List, [], _∷_, map, List·Memᴰ, List·Memᴰ·head, List·Memᴰ·tail}
+use mathlib.Core.Bool.{Bool, true, false, not}
+use mathlib.Core.List.{List, _∷_, map, List·Memᴰ, List·Memᴰ·head, List·Memᴰ·tail}
 use mathlib.Core.Path.{_≡_, refl, sym, ap, _∙_}
 use mathlib.Core.Logic.{⊎-elim}
 use native.Mathlib.Omega.{arith}
@@ -20,17 +20,18 @@ use Rattle.lists.specs.declared.list.ContractList.{ContractList}
 use Rattle.lists.specs.declared.list.ListRead.{ListRead}
 use Rattle.lists.proofs.list.Laws.{list-fair}
 use Rattle.lists.proofs.Entries.{length-without}
+use Rattle.lists.proofs.Tallying.{among-in-use}
 use Rattle.lists.proofs.Fairness.{without-listing, appended-listing}
 use Rattle.lists.proofs.Kept.{Kept, list-kept, list-got, room-left, room-all}
 use Rattle.contract.specs.Contract.{contractRead}
 use Rattle.contract.specs.declared.Contract.{Contract}
-use Rattle.loading.specs.Blocking.{some}
 use Rattle.loading.specs.Place.{free, place, afterwards}
 use Rattle.loading.specs.Loading.{Lent, Found, found, Outcome, lengths, lengthsOf, entryFits, limits, contractGot, loaded, newEntry, blocking, placing, finding, settled, loading}
 use Rattle.loading.specs.inner.Unread.{unread}
 use Rattle.loading.specs.inner.Marks.{marked, refusalOf, Marking}
 use Rattle.loading.specs.inner.Store.{renewed, stored, restRead, ended}
 use Rattle.loading.specs.declared.Order.{Order}
+use Rattle.loading.proofs.Used.{in-use}
 use Rattle.loading.proofs.Placing.{Named, placed-free-or-erasable, place-marked}
 use Rattle.loading.proofs.Told.{rest-stops, rest-contract}
 use Rattle.loading.proofs.Storing.{end-accepted}
@@ -48,11 +49,7 @@ leaves e (f ∷ es) p (List·Memᴰ·tail there) own = go (eqb (f .pointer) p) (
 
 -- A free pointer is none of the entries'.
 pub free-among : (es : List Entry) (p : ℕ) → free es p ≡ true → among p (map (λ (e : Entry). e .pointer) es) ≡ false
-free-among es p h = sym (same es p) ∙ not-true _ h
-  where
-    same : (es : List Entry) (p : ℕ) → some (λ e. eqb (e .pointer) p) es ≡ among p (map (λ (e : Entry). e .pointer) es)
-    same [] p = refl
-    same (e ∷ es) p = ap (λ (t : Bool). eqb (e .pointer) p || t) (same es p)
+free-among es p h = among-in-use es p ∙ in-use es p ∙ not-true _ h
 
 -- Where the rule names a pointer, there is room for its entry.
 pub room-for : (n c : ℕ) (l : ContractList) (blocked : ℕ → Bool) (p : ℕ) → Kept n c l → Named blocked n (counted l) p → (p ≡ 0 → ⊥)

@@ -27,7 +27,7 @@ pub bit-on : (x : ℕ) → (x % 2 ≡ 0 → ⊥) → odd x ≡ true
 bit-on x other = let one : x % 2 ≡ 1 = omega arith in rw one
 
 -- An entry has the pointer.
-in-use : (es : List Entry) (p : ℕ) → inUse es p ≡ some (λ e. eqb (e .pointer) p) es
+pub in-use : (es : List Entry) (p : ℕ) → inUse es p ≡ some (λ e. eqb (e .pointer) p) es
 in-use [] p = refl
 in-use (e ∷ es) p = ap (λ (t : Bool). eqb (e .pointer) p || t) (in-use es p)
 
