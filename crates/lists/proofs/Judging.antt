@@ -41,18 +41,16 @@ fault-more full limit before (x ∷ bs) (y ∷ ps) b p same =
     go true rest = rest
     go false rest = rw (ne-eqb (suc (length before)) 0 (λ e. omega arith))
 
-among-more : (q p : ℕ) (ps : List ℕ) → among q (ps ++ (p ∷ [])) ≡ among q ps || eqb p q
-among-more q p [] = go (eqb p q)
-  where
-    go : (t : Bool) → t || false ≡ t
-    go true = refl
-    go false = refl
-among-more q p (m ∷ ps) = go (eqb m q) (among-more q p ps)
+-- A number is among some and one more.
+pub among-last : (q : ℕ) (ps : List ℕ) (p : ℕ) → among q (ps ++ (p ∷ [])) ≡ among q ps || eqb p q
+among-last q [] p = or-false (eqb p q)
+among-last q (m ∷ ps) p = go (eqb m q) (among-last q ps p)
   where
     go : (t : Bool) → among q (ps ++ (p ∷ [])) ≡ among q ps || eqb p q → t || among q (ps ++ (p ∷ [])) ≡ (t || among q ps) || eqb p q
     go true rest = refl
     go false rest = rest
 
+-- Before the first entry.
 pub judges-none : (full limit : ℕ) → Judges full limit [] [] (record { used = 0; fault = 0 })
 judges-none full limit = record { same = refl; fault = refl; used = λ clear. refl }
 
@@ -110,7 +108,7 @@ module _ (full limit : ℕ) (bs ps : List ℕ) (j : Judged) (so-far : Judges ful
         → Judges full limit (bs ++ (b ∷ [])) (ps ++ (p ∷ [])) (record { used = u; fault = 0 })
     judges-kept u one off =
         let unused : among p ps ≡ false = sym own-bit ∙ rw off in
-        let now : among p (ps ++ (p ∷ [])) ≡ true = rw (among-more p p ps, eq-eqb p p refl) (or-true (among p ps)) in
+        let now : among p (ps ++ (p ∷ [])) ≡ true = rw (among-last p ps p, eq-eqb p p refl) (or-true (among p ps)) in
         record {
           same = same-more;
           fault = more true (rw (h, unused)) clear;
@@ -118,7 +116,7 @@ module _ (full limit : ℕ) (bs ps : List ℕ) (j : Judged) (so-far : Judges ful
               one
               ∙ rw (so-far .used clear)
               (sym (mask-more 8 1 p (λ q. among q ps) (λ q. among q (ps ++ (p ∷ []))) (inside .0) (omega (arith, inside)) unused now
-              (λ r other. let apart : eqb p r ≡ false = ne-eqb _ _ (λ e. other (sym e)) in rw (among-more r p ps, apart) (sym (or-false (among r ps))))));
+              (λ r other. let apart : eqb p r ≡ false = ne-eqb _ _ (λ e. other (sym e)) in rw (among-last r ps p, apart) (sym (or-false (among r ps))))));
         }
 
 -- An entry more of some that are judged, by what a turn gives.

@@ -1,7 +1,7 @@
 -- What is known of a contract list that was read: its entries keep the rule of lists.
 use Prim.Native.Nat.{ℕ, zero, suc, _+_, _/_, _≤_, _<_}
 use mathlib.Core.List.{List, [], _∷_, _++_, map, append-assoc, append-nil, List·Memᴰ, List·Memᴰ·head, List·Memᴰ·tail}
-use mathlib.Core.Bool.{Bool, true, false, _||_, not, true≢false}
+use mathlib.Core.Bool.{Bool, true, false, _||_, not, or-false, true≢false}
 use mathlib.Core.Path.{_≡_, refl, sym, ap, _∙_}
 use native.Mathlib.Omega.{arith}
 use lib.Dec.{eqb, ltb, leb}
@@ -18,7 +18,7 @@ use Rattle.rows.proofs.Margins.{both}
 use Rattle.rows.proofs.Refusing.{bare-refused}
 use Rattle.records.specs.Answer.{refusal, answered}
 use Rattle.records.proofs.Coming.{ComesTo, fine, faulty}
-use Rattle.lists.proofs.Judging.{take-map}
+use Rattle.lists.proofs.Judging.{among-last, take-map}
 use Rattle.lists.specs.Listing.{column, obeying, readList}
 use Rattle.lists.specs.Rules.{keeps, faultAfter}
 use Rattle.lists.specs.List.{entriesOf, listOf, gotList, noList, listFault, outside, listRead}
@@ -171,24 +171,12 @@ abbrev vacant : ℕ → List ℕ → ℕ
 vacant zero ps = 0
 vacant (suc k) ps = pick (among (suc k) ps) 0 1 + vacant k ps
 
-or-none : (t : Bool) → (t || false) ≡ t
-or-none true = refl
-or-none false = refl
-
-among-last : (q : ℕ) (ps : List ℕ) (p : ℕ) → among q (ps ++ (p ∷ [])) ≡ (among q ps || eqb p q)
-among-last q [] p = or-none (eqb p q)
-among-last q (x ∷ ps) p = go (eqb x q) (among-last q ps p)
-  where
-    go : (t : Bool) → among q (ps ++ (p ∷ [])) ≡ (among q ps || eqb p q) → (t || among q (ps ++ (p ∷ []))) ≡ ((t || among q ps) || eqb p q)
-    go true rest = refl
-    go false rest = rest
-
 -- A pointer above k takes none of the vacant ones up to k;
 above-none : (k : ℕ) (ps : List ℕ) (p : ℕ) → k < p → vacant k (ps ++ (p ∷ [])) ≡ vacant k ps
 above-none zero ps p h = refl
 above-none (suc k) ps p h =
     let other : eqb p (suc k) ≡ false = ne-eqb p (suc k) (λ e. omega arith) in
-    rw (among-last (suc k) ps p, other, or-none (among (suc k) ps), above-none k ps p (omega arith))
+    rw (among-last (suc k) ps p, other, or-false (among (suc k) ps), above-none k ps p (omega arith))
 
 -- one that is vacant takes one;
 takes-one : (k : ℕ) (ps : List ℕ) (p : ℕ) → 1 ≤ p → p ≤ k → among p ps ≡ false → vacant k ps ≡ suc (vacant k (ps ++ (p ∷ [])))
@@ -204,7 +192,7 @@ takes-one (suc k) ps p low high new = go (eqb p (suc k)) refl (takes-one k ps p 
     go false e rest =
         let other : p ≡ suc k → ⊥ = eqb-false _ _ e in
         let under : p ≤ k = omega arith in
-        let same : among (suc k) (ps ++ (p ∷ [])) ≡ among (suc k) ps = rw (among-last (suc k) ps p, e) (or-none (among (suc k) ps)) in
+        let same : among (suc k) (ps ++ (p ∷ [])) ≡ among (suc k) ps = rw (among-last (suc k) ps p, e) (or-false (among (suc k) ps)) in
         rw same (omega (arith, rest under new))
 
 -- and where one is vacant, there is one.
