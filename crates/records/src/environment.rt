@@ -3,8 +3,9 @@ ghost use mathlib.Core.Path.{_≡_};
 ghost use mathlib.Core.List.{[]};
 ghost use lib.ListN.{length};
 ghost use Rattle.rows.specs.inner.Line.{start, Taken, Given};
+ghost use Rattle.rows.specs.Margin.{wordsOf};
 ghost use Rattle.rows.specs.table.Environment.{environment};
-ghost use Rattle.records.specs.Environment.{environmentTold, environmentRead, environmentWritten, numbersOf};
+ghost use Rattle.records.specs.Environment.{environmentTold, environmentRead, environmentWritten, numbersOf, environmentOf};
 use crate::BITS;
 use crate::BYTES;
 use crate::Refusal;
@@ -27,6 +28,45 @@ pub struct Environment {
     pub data_bitmap: u32,
     pub card_status: u32,
     pub margin: Margin,
+}
+
+impl Environment {
+    // Its numbers in card order.
+    pub fn numbers(self) -> [u32; 10]
+        ensures { λ r. ⌜ r ≡ numbersOf self ⌝ }
+    {
+        [
+            self.version,
+            self.bitmap,
+            self.network,
+            self.issuer,
+            self.end_date,
+            self.pay_method,
+            self.authenticator,
+            self.select_list,
+            self.data_bitmap,
+            self.card_status,
+        ]
+    }
+
+    // The Environment of such numbers, and a margin.
+    pub fn of(numbers: [u32; 10], margin: Margin) -> Environment
+        ensures { λ r. ⌜ r ≡ environmentOf numbers (wordsOf margin) ⌝ }
+    {
+        Environment {
+            version: numbers[0],
+            bitmap: numbers[1],
+            network: numbers[2],
+            issuer: numbers[3],
+            end_date: numbers[4],
+            pay_method: numbers[5],
+            authenticator: numbers[6],
+            select_list: numbers[7],
+            data_bitmap: numbers[8],
+            card_status: numbers[9],
+            margin,
+        }
+    }
 }
 
 pub enum EnvironmentRead {

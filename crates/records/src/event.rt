@@ -4,8 +4,9 @@ ghost use mathlib.Core.List.{[]};
 ghost use lib.ListN.{length, take, drop};
 ghost use Rattle.rows.specs.inner.Step.{Ready, Drafted};
 ghost use Rattle.rows.specs.inner.Line.{start, Taken, Given};
+ghost use Rattle.rows.specs.Margin.{wordsOf};
 ghost use Rattle.rows.specs.table.Event.{event};
-ghost use Rattle.records.specs.Event.{eventTold, eventRead, eventWritten, numbersOf};
+ghost use Rattle.records.specs.Event.{eventTold, eventRead, eventWritten, numbersOf, eventOf};
 use crate::BITS;
 use crate::BYTES;
 use crate::LAST_MINUTE;
@@ -100,6 +101,94 @@ impl Event {
         direction: 0,
         margin: Margin::NONE,
     };
+
+    // Its numbers in card order; element [17] is 0.
+    pub fn numbers(self) -> [u32; 36]
+        ensures { λ r. ⌜ r ≡ numbersOf self ⌝ }
+    {
+        [
+            self.date,
+            self.minute,
+            self.bitmap,
+            self.display_data,
+            self.network,
+            self.code,
+            self.result,
+            self.provider,
+            self.not_ok_counter,
+            self.serial,
+            self.destination,
+            self.location,
+            self.gate,
+            self.device,
+            self.route,
+            self.route_variant,
+            self.journey_run,
+            self.vehicle,
+            self.vehicle_class,
+            self.location_type,
+            0,
+            self.location_reference,
+            self.interchanges,
+            self.period_journeys,
+            self.total_journeys,
+            self.distance,
+            self.price,
+            self.price_unit,
+            self.pointer,
+            self.authenticator,
+            self.data_bitmap,
+            self.first_date,
+            self.first_minute,
+            self.simulation,
+            self.trip,
+            self.direction,
+        ]
+    }
+
+    // The Event of such numbers, and a margin.
+    pub fn of(numbers: [u32; 36], margin: Margin) -> Event
+        ensures { λ r. ⌜ r ≡ eventOf numbers (wordsOf margin) ⌝ }
+    {
+        Event {
+            date: numbers[0],
+            minute: numbers[1],
+            bitmap: numbers[2],
+            display_data: numbers[3],
+            network: numbers[4],
+            code: numbers[5],
+            result: numbers[6],
+            provider: numbers[7],
+            not_ok_counter: numbers[8],
+            serial: numbers[9],
+            destination: numbers[10],
+            location: numbers[11],
+            gate: numbers[12],
+            device: numbers[13],
+            route: numbers[14],
+            route_variant: numbers[15],
+            journey_run: numbers[16],
+            vehicle: numbers[17],
+            vehicle_class: numbers[18],
+            location_type: numbers[19],
+            location_reference: numbers[21],
+            interchanges: numbers[22],
+            period_journeys: numbers[23],
+            total_journeys: numbers[24],
+            distance: numbers[25],
+            price: numbers[26],
+            price_unit: numbers[27],
+            pointer: numbers[28],
+            authenticator: numbers[29],
+            data_bitmap: numbers[30],
+            first_date: numbers[31],
+            first_minute: numbers[32],
+            simulation: numbers[33],
+            trip: numbers[34],
+            direction: numbers[35],
+            margin,
+        }
+    }
 }
 
 pub enum EventRead {

@@ -6,7 +6,7 @@ ghost use Prim.Native.Nat.{_*_, _/_, _≤_, _<_};
 ghost use lib.Dec.{eqb};
 ghost use lib.ListN.{length, replicate};
 ghost use Rattle.bits.specs.Bits.{spread, cut, cleared, leading};
-ghost use Rattle.rows.specs.Margin.{wordsOf};
+ghost use Rattle.rows.specs.Margin.{wordsOf, marginOf};
 ghost use Rattle.rows.specs.inner.Step.{Drafted, Kept};
 use crate::Cursor;
 
@@ -26,6 +26,24 @@ impl Margin {
         at128: 0,
         at192: 0,
     };
+
+    // Its words, in the order of their bits.
+    pub fn words(self) -> [u64; 4]
+        ensures { λ r. ⌜ r ≡ wordsOf self ⌝ }
+    {
+        [self.at0, self.at64, self.at128, self.at192]
+    }
+
+    pub fn of(words: [u64; 4]) -> Margin
+        ensures { λ r. ⌜ r ≡ marginOf words ⌝ }
+    {
+        Margin {
+            at0: words[0],
+            at64: words[1],
+            at128: words[2],
+            at192: words[3],
+        }
+    }
 
     fn is_none(self) -> bool
         ensures { λ r. ⌜ r ≡ eqb (leading (spread 64 (wordsOf self))) 256 ⌝ }
@@ -67,7 +85,7 @@ pub fn put(draft: &mut [u64], room: u32, c: Cursor, margin: Margin) -> Cursor
     if margin.is_none() {
         return c;
     }
-    let whole = [margin.at0, margin.at64, margin.at128, margin.at192];
+    let whole = margin.words();
     put_words(draft, room, c, &whole)
 }
 

@@ -13,13 +13,17 @@ returns c =
     kept-none (s .args .draft .now) (s .args .room) (s .args .c) (wordsOf (s .args .margin)) (s .pre .1 .0) (s .pre .0 .within) (s .pre .1 .1 .0)
     (eqb-true _ _ (sym (c .before .is-none .ensures) ∙ c .if1 .taken))
 
+returns-2 : tie.Need-returns-2
+returns-2 c = rw (c .before .before .before .before .before .words .ensures) at (c .before .before .put-words .ensures)
+
 pub put-spec : {M : Type 1} → statement M
 put-spec =
     tie.close
     (tie.spec
     (λ c κs. search needs)
     returns
+    (λ c κs. search needs)
     (λ c. search needs)
     (λ c κs. search needs)
     (λ c. search needs)
-    (λ c. search needs))
+    returns-2)
