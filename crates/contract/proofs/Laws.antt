@@ -38,7 +38,7 @@ agrees-of : (kind : ℕ) (vals margin : List ℕ) → known kind ≡ true → ag
 agrees-of kind vals margin = go (isCarnet kind) (isUrban kind) (follow (getD vals 0 0)) refl refl
   where
     go : (k u f : Bool) → isCarnet kind ≡ k → isUrban kind ≡ u → (k || u) ≡ true
-        → suit kind f (pick f (pick k (Carnet (data42Of vals)) (Urban (data50Of vals))) Nothing) ≡ true
+        → suit kind f (pick f (pick k (Carnet (data42Of (from 9 9 vals))) (Urban (data50Of (from 9 36 vals)))) Nothing) ≡ true
     go true u true carnet urban h = carnet
     go true u false carnet urban h = refl
     go false true true carnet urban h = urban
@@ -53,7 +53,7 @@ contract-back kind c = go (c .«data») (isCarnet kind) (follow (c .bitmap)) ref
     slotsFor d k = headNumbers c ++ pick k (numbers42 (carnet d)) (numbers50 (urban d))
 
     go : (d : Data) (k f : Bool) → isCarnet kind ≡ k → suit kind f d ≡ true
-        → withRest c (pick f (pick k (Carnet (data42Of (slotsFor d k))) (Urban (data50Of (slotsFor d k)))) Nothing) (c .margin) ≡ withRest c d (c .margin)
+        → withRest c (pick f (pick k (Carnet (data42Of (from 9 9 (slotsFor d k)))) (Urban (data50Of (from 9 36 (slotsFor d k))))) Nothing) (c .margin) ≡ withRest c d (c .margin)
     go Nothing k true carnet h = absurd (false≢true h)
     go Nothing k false carnet h = refl
     go (Carnet d) true true carnet h = refl
@@ -74,8 +74,8 @@ contract-forth kind bs margin {c} {end} = go (isCarnet kind) (follow (getD (c .n
 
     go : (k f : Bool) → follow (getD vals 0 0) ≡ f → read (pick k contract42 contract50) bs ≡ done c end
         → from 0 9 vals
-        ++ pick k (numbers42 (carnet (pick f (pick k (Carnet (data42Of vals)) (Urban (data50Of vals))) Nothing)))
-        (numbers50 (urban (pick f (pick k (Carnet (data42Of vals)) (Urban (data50Of vals))) Nothing)))
+        ++ pick k (numbers42 (carnet (pick f (pick k (Carnet (data42Of (from 9 9 vals))) (Urban (data50Of (from 9 36 vals)))) Nothing)))
+        (numbers50 (urban (pick f (pick k (Carnet (data42Of (from 9 9 vals))) (Urban (data50Of (from 9 36 vals)))) Nothing)))
         ≡ vals
     go true true e h = from-all 18 vals (read-slots contract42 bs h)
     go false true e h = from-all 45 vals (read-slots contract50 bs h)

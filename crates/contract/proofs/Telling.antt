@@ -1,8 +1,8 @@
 -- What the answer to a reading tells is the whole of it: answers that tell the same are equal.
 use Prim.Native.Nat.{ℕ, _+_}
-use mathlib.Core.List.{List, _++_}
+use mathlib.Core.List.{List}
 use mathlib.Core.Path.{_≡_, refl}
-use lib.ListN.{getD, take, drop}
+use lib.ListN.{getD, drop}
 use Rattle.rows.specs.Row.{pick}
 use Rattle.rows.specs.Margin.{marginOf}
 use Rattle.records.specs.Answer.{Told, refusalAt}
@@ -13,7 +13,7 @@ use Rattle.contract.specs.declared.Data.the-variants.{Nothing, Carnet, U
 use Rattle.contract.specs.declared.ContractRead.{ContractRead}
 use Rattle.contract.specs.declared.ContractRead.the-variants.{Read, Refused}
 
--- The data of a type and of the slots behind the head.
+-- The data of a type and of their numbers.
 abbrev data-back : ℕ → List ℕ → Data
 data-back kind vals = pick (isCarnet kind) (Carnet (data42Of vals)) (pick (isUrban kind) (Urban (data50Of vals)) Nothing)
 
@@ -27,7 +27,7 @@ contract-back t =
     let kind : ℕ = getD (t .values) 9 0 in
     pick (t .holds)
     (Read
-    (withRest (headOf (t .values)) (data-back kind (take 9 (t .values) ++ drop 10 (t .values))) (marginOf (drop (10 + many kind) (t .values)))))
+    (withRest (headOf (t .values)) (data-back kind (drop 10 (t .values))) (marginOf (drop (10 + many kind) (t .values)))))
     (Refused (refusalAt (t .number) (t .place) (t .field)))
 
 contract-returned : (r : ContractRead) → contract-back (contractTold r) ≡ r

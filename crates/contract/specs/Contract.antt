@@ -11,7 +11,7 @@ use Rattle.rows.specs.Walk.{andThen, refused, walk, slotsOf}
 use Rattle.rows.specs.Margin.{wordsOf, marginOf}
 use Rattle.rows.specs.declared.margin.Margin.{Margin}
 use Rattle.rows.specs.table.Contract.{head, contract42, contract50}
-use Rattle.records.specs.Answer.{Written, Told, toldValue, toldRefusal, refusal, denied, written, readRecord, writeRecord}
+use Rattle.records.specs.Answer.{Written, Told, toldValue, toldRefusal, refusal, denied, written, readRecord, writeRecord, from}
 use Rattle.contract.specs.declared.Data42.{Data42}
 use Rattle.contract.specs.declared.Data50.{Data50}
 use Rattle.contract.specs.declared.Data.{Data}
@@ -92,61 +92,61 @@ numbers50 d =
     ∷ d .intermodal
     ∷ []
 
--- The data of 42h stand behind the nine slots of the head.
+-- The data of 42h, of their own numbers.
 abbrev pub data42Of : List ℕ → Data42
 data42Of vals =
     record {
-      «pay_method» = getD vals 9 0;
-      price = getD vals 10 0;
-      «sale_date» = getD vals 11 0;
-      «sale_minute» = getD vals 12 0;
-      agent = getD vals 13 0;
-      device = getD vals 14 0;
-      receipt = getD vals 15 0;
-      passengers = getD vals 16 0;
-      «inhibition_end» = getD vals 17 0;
+      «pay_method» = getD vals 0 0;
+      price = getD vals 1 0;
+      «sale_date» = getD vals 2 0;
+      «sale_minute» = getD vals 3 0;
+      agent = getD vals 4 0;
+      device = getD vals 5 0;
+      receipt = getD vals 6 0;
+      passengers = getD vals 7 0;
+      «inhibition_end» = getD vals 8 0;
     }
 
--- So do those of 50h.
+-- And the data of 50h, of theirs.
 abbrev pub data50Of : List ℕ → Data50
 data50Of vals =
     record {
-      «end_date» = getD vals 9 0;
-      «grey_list» = getD vals 10 0;
-      chrono = getD vals 11 0;
-      flag = getD vals 12 0;
-      bitmap = getD vals 13 0;
-      agent = getD vals 14 0;
-      origin = getD vals 15 0;
-      destination = getD vals 16 0;
-      via = getD vals 17 0;
-      token1 = getD vals 18 0;
-      token2 = getD vals 19 0;
-      «autoload_start» = getD vals 20 0;
-      «autoload_end» = getD vals 21 0;
-      balance = getD vals 22 0;
-      «last_debit» = getD vals 23 0;
-      purse = getD vals 24 0;
-      debit = getD vals 25 0;
-      passengers = getD vals 26 0;
-      «period_end» = getD vals 27 0;
-      «period_balance» = getD vals 28 0;
-      zone1 = getD vals 29 0;
-      zone2 = getD vals 30 0;
-      zone3 = getD vals 31 0;
-      sections = getD vals 32 0;
-      «sections_left» = getD vals 33 0;
-      stop1 = getD vals 34 0;
-      stop2 = getD vals 35 0;
-      stop3 = getD vals 36 0;
-      stop4 = getD vals 37 0;
-      line1 = getD vals 38 0;
-      line2 = getD vals 39 0;
-      weekly = getD vals 40 0;
-      «start_date» = getD vals 41 0;
-      «end_minute» = getD vals 42 0;
-      token = getD vals 43 0;
-      intermodal = getD vals 44 0;
+      «end_date» = getD vals 0 0;
+      «grey_list» = getD vals 1 0;
+      chrono = getD vals 2 0;
+      flag = getD vals 3 0;
+      bitmap = getD vals 4 0;
+      agent = getD vals 5 0;
+      origin = getD vals 6 0;
+      destination = getD vals 7 0;
+      via = getD vals 8 0;
+      token1 = getD vals 9 0;
+      token2 = getD vals 10 0;
+      «autoload_start» = getD vals 11 0;
+      «autoload_end» = getD vals 12 0;
+      balance = getD vals 13 0;
+      «last_debit» = getD vals 14 0;
+      purse = getD vals 15 0;
+      debit = getD vals 16 0;
+      passengers = getD vals 17 0;
+      «period_end» = getD vals 18 0;
+      «period_balance» = getD vals 19 0;
+      zone1 = getD vals 20 0;
+      zone2 = getD vals 21 0;
+      zone3 = getD vals 22 0;
+      sections = getD vals 23 0;
+      «sections_left» = getD vals 24 0;
+      stop1 = getD vals 25 0;
+      stop2 = getD vals 26 0;
+      stop3 = getD vals 27 0;
+      stop4 = getD vals 28 0;
+      line1 = getD vals 29 0;
+      line2 = getD vals 30 0;
+      weekly = getD vals 31 0;
+      «start_date» = getD vals 32 0;
+      «end_minute» = getD vals 33 0;
+      token = getD vals 34 0;
+      intermodal = getD vals 35 0;
     }
 
 -- A contract of the head's slots, with no data and nothing in its margin.
@@ -199,10 +199,10 @@ tableOf kind = pick (isCarnet kind) contract42 contract50
 abbrev pub follow : ℕ → Bool
 follow bitmap = odd (bitmap / 2 ^ 6)
 
--- The data of a type, where they follow.
+-- The data of a type, where they follow: they stand behind the nine slots of the head.
 abbrev pub dataOf : ℕ → List ℕ → Data
 dataOf kind vals =
-    pick (follow (getD vals 0 0)) (pick (isCarnet kind) (Carnet (data42Of vals)) (Urban (data50Of vals))) Nothing
+    pick (follow (getD vals 0 0)) (pick (isCarnet kind) (Carnet (data42Of (from 9 9 vals))) (Urban (data50Of (from 9 36 vals)))) Nothing
 
 -- A contract of the slots of its type's table and the words of its margin.
 abbrev pub contractOf : ℕ → List ℕ → List ℕ → Contract

@@ -7,9 +7,10 @@ ghost use lib.ListN.{length, take, drop};
 ghost use Rattle.rows.specs.inner.Step.{Ready, Drafted};
 ghost use Rattle.rows.specs.inner.Line.{start, Taken, Given};
 ghost use Rattle.rows.specs.table.Contract.{head, data42, data50};
-ghost use Rattle.contract.specs.Contract.{behind, headNumbers, numbers42, numbers50, follow, known, withRest, agrees, carnet, urban, contractTold, contractRead, contractWritten};
+ghost use Rattle.contract.specs.Contract.{behind, headNumbers, numbers42, numbers50, data42Of, data50Of, headOf, dataOf, contractOf, follow, known, withRest, agrees, carnet, urban, contractTold, contractRead, contractWritten};
 ghost use Rattle.bits.specs.Bits.{cut, cleared};
-ghost use Rattle.rows.specs.Margin.{marginOf};
+ghost use Rattle.rows.specs.Margin.{wordsOf, marginOf};
+ghost use Rattle.records.specs.Answer.{from};
 ghost use Rattle.contract.specs.inner.Steps.{disagreed, PutOf};
 ghost use Rattle.records.specs.inner.Met.{met};
 use records::BITS;
@@ -112,6 +113,140 @@ impl Contract {
     const DATA_FIELD: u32 = 9;
 
     const COUNT_AT_DATA: u32 = Contract::DATA_FIELD + 1;
+
+    // The numbers of its head, in card order.
+    pub fn head_numbers(self) -> [u32; 9]
+        ensures { λ r. ⌜ r ≡ headNumbers self ⌝ }
+    {
+        [
+            self.bitmap,
+            self.provider,
+            self.tariff,
+            self.serial,
+            self.class,
+            self.validity_bitmap,
+            self.start_date,
+            self.end_date,
+            self.status,
+        ]
+    }
+
+    // The contract of a head of such numbers, data and a margin.
+    pub fn of_head(head: [u32; 9], data: Data, margin: Margin) -> Contract
+        ensures { λ r. ⌜ r ≡ withRest (headOf head) «data» margin ⌝ }
+    {
+        Contract {
+            bitmap: head[0],
+            provider: head[1],
+            tariff: head[2],
+            serial: head[3],
+            class: head[4],
+            validity_bitmap: head[5],
+            start_date: head[6],
+            end_date: head[7],
+            status: head[8],
+            data,
+            margin,
+        }
+    }
+
+    // The contract of a type, of the numbers of its head and then its data, and a margin.
+    pub fn of(kind: u32, numbers: [u32; 45], margin: Margin) -> Contract
+        ensures { λ r. ⌜ r ≡ contractOf kind numbers (wordsOf margin) ⌝ }
+    {
+        let head = head_part(numbers);
+        Contract::of_head(head, Data::of(kind, numbers), margin)
+    }
+}
+
+impl Data {
+    // The data of a type, where they follow.
+    fn of(kind: u32, numbers: [u32; 45]) -> Data
+        ensures { λ r. ⌜ r ≡ dataOf kind numbers ⌝ }
+    {
+        if !follow(numbers[0]) {
+            return Data::Nothing;
+        }
+        if kind == Contract::CARNET {
+            return Data::Carnet(Data42::of(carnet_part(numbers)));
+        }
+        Data::Urban(Data50::of(urban_part(numbers)))
+    }
+}
+
+fn head_part(numbers: [u32; 45]) -> [u32; 9]
+    ensures { λ r. ⌜ r ≡ from 0 9 numbers ⌝ }
+{
+    [
+        numbers[0],
+        numbers[1],
+        numbers[2],
+        numbers[3],
+        numbers[4],
+        numbers[5],
+        numbers[6],
+        numbers[7],
+        numbers[8],
+    ]
+}
+
+fn carnet_part(numbers: [u32; 45]) -> [u32; 9]
+    ensures { λ r. ⌜ r ≡ from 9 9 numbers ⌝ }
+{
+    [
+        numbers[9],
+        numbers[10],
+        numbers[11],
+        numbers[12],
+        numbers[13],
+        numbers[14],
+        numbers[15],
+        numbers[16],
+        numbers[17],
+    ]
+}
+
+fn urban_part(numbers: [u32; 45]) -> [u32; 36]
+    ensures { λ r. ⌜ r ≡ from 9 36 numbers ⌝ }
+{
+    [
+        numbers[9],
+        numbers[10],
+        numbers[11],
+        numbers[12],
+        numbers[13],
+        numbers[14],
+        numbers[15],
+        numbers[16],
+        numbers[17],
+        numbers[18],
+        numbers[19],
+        numbers[20],
+        numbers[21],
+        numbers[22],
+        numbers[23],
+        numbers[24],
+        numbers[25],
+        numbers[26],
+        numbers[27],
+        numbers[28],
+        numbers[29],
+        numbers[30],
+        numbers[31],
+        numbers[32],
+        numbers[33],
+        numbers[34],
+        numbers[35],
+        numbers[36],
+        numbers[37],
+        numbers[38],
+        numbers[39],
+        numbers[40],
+        numbers[41],
+        numbers[42],
+        numbers[43],
+        numbers[44],
+    ]
 }
 
 impl Data42 {
@@ -127,6 +262,39 @@ impl Data42 {
         passengers: 0,
         inhibition_end: 0,
     };
+
+    // Their numbers in card order.
+    pub fn numbers(self) -> [u32; 9]
+        ensures { λ r. ⌜ r ≡ numbers42 self ⌝ }
+    {
+        [
+            self.pay_method,
+            self.price,
+            self.sale_date,
+            self.sale_minute,
+            self.agent,
+            self.device,
+            self.receipt,
+            self.passengers,
+            self.inhibition_end,
+        ]
+    }
+
+    pub fn of(numbers: [u32; 9]) -> Data42
+        ensures { λ r. ⌜ r ≡ data42Of numbers ⌝ }
+    {
+        Data42 {
+            pay_method: numbers[0],
+            price: numbers[1],
+            sale_date: numbers[2],
+            sale_minute: numbers[3],
+            agent: numbers[4],
+            device: numbers[5],
+            receipt: numbers[6],
+            passengers: numbers[7],
+            inhibition_end: numbers[8],
+        }
+    }
 }
 
 impl Data50 {
@@ -169,6 +337,93 @@ impl Data50 {
         token: 0,
         intermodal: 0,
     };
+
+    // Their numbers in card order.
+    pub fn numbers(self) -> [u32; 36]
+        ensures { λ r. ⌜ r ≡ numbers50 self ⌝ }
+    {
+        [
+            self.end_date,
+            self.grey_list,
+            self.chrono,
+            self.flag,
+            self.bitmap,
+            self.agent,
+            self.origin,
+            self.destination,
+            self.via,
+            self.token1,
+            self.token2,
+            self.autoload_start,
+            self.autoload_end,
+            self.balance,
+            self.last_debit,
+            self.purse,
+            self.debit,
+            self.passengers,
+            self.period_end,
+            self.period_balance,
+            self.zone1,
+            self.zone2,
+            self.zone3,
+            self.sections,
+            self.sections_left,
+            self.stop1,
+            self.stop2,
+            self.stop3,
+            self.stop4,
+            self.line1,
+            self.line2,
+            self.weekly,
+            self.start_date,
+            self.end_minute,
+            self.token,
+            self.intermodal,
+        ]
+    }
+
+    pub fn of(numbers: [u32; 36]) -> Data50
+        ensures { λ r. ⌜ r ≡ data50Of numbers ⌝ }
+    {
+        Data50 {
+            end_date: numbers[0],
+            grey_list: numbers[1],
+            chrono: numbers[2],
+            flag: numbers[3],
+            bitmap: numbers[4],
+            agent: numbers[5],
+            origin: numbers[6],
+            destination: numbers[7],
+            via: numbers[8],
+            token1: numbers[9],
+            token2: numbers[10],
+            autoload_start: numbers[11],
+            autoload_end: numbers[12],
+            balance: numbers[13],
+            last_debit: numbers[14],
+            purse: numbers[15],
+            debit: numbers[16],
+            passengers: numbers[17],
+            period_end: numbers[18],
+            period_balance: numbers[19],
+            zone1: numbers[20],
+            zone2: numbers[21],
+            zone3: numbers[22],
+            sections: numbers[23],
+            sections_left: numbers[24],
+            stop1: numbers[25],
+            stop2: numbers[26],
+            stop3: numbers[27],
+            stop4: numbers[28],
+            line1: numbers[29],
+            line2: numbers[30],
+            weekly: numbers[31],
+            start_date: numbers[32],
+            end_minute: numbers[33],
+            token: numbers[34],
+            intermodal: numbers[35],
+        }
+    }
 }
 
 // The head, and the cursor behind its last field.
