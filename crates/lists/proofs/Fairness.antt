@@ -126,6 +126,26 @@ module _ (n c : ℕ) (l : ContractList) (even : Fair c l) where
         used-up-plain = rw even;
       }
 
+-- The first counted entries of a list and one more.
+counted-more : (l : ContractList) → length (l .entries) ≡ 8 → (i : ℕ) (d : Entry) → i < length (counted l)
+    → take (i + 1) (counted l) ≡ take i (counted l) ++ (getD (l .entries) i d ∷ [])
+counted-more l eight i d more =
+    let counts : i < l .count = omega (arith, length-counted l eight, more) in
+    let own : getD (counted l) i d ≡ getD (l .entries) i d = getD-take (l .count) (l .entries) i d counts in
+    rw (add-one i, take-suc (counted l) i d more, own)
+
+-- A fresh tally, with an entry more and with all.
+module _ (c : ℕ) (l : ContractList) (i : ℕ) (t : Tally) (so : t ≡ tallyOf c (take i (counted l))) where
+  pub tally-more : length (l .entries) ≡ 8 → (d : Entry) (u : Tally) → i < length (counted l)
+      → u ≡ atPointer c (getD (l .entries) i d .pointer) (entered (getD (l .entries) i d .pointer) (getD (l .entries) i d .priority)) t
+      → u ≡ tallyOf c (take (i + 1) (counted l))
+  tally-more eight d u more one =
+      let room : length (take i (counted l)) < 8 = omega (arith, length-take-le i (counted l) (omega arith), length-counted l eight) in
+      one ∙ rw (so, counted-more l eight i d more) (tally-entered c (take i (counted l)) (getD (l .entries) i d) room)
+
+  pub tally-all : length (counted l) ≤ i → t ≡ tallyOf c (counted l)
+  tally-all all = rw (take-all i (counted l) all) at so
+
 -- A fresh count, and the rule, entry by entry.
 pub recount-none : (n c : ℕ) → Recounts n c [] (record { judged = record { used = 0; fault = 0 }; spent = record { all = 0; counter = 0 } })
 recount-none n c = record { judges = judges-none 3 n; spent = refl }
@@ -144,9 +164,7 @@ module _ (n c : ℕ) (l : ContractList) (eight : length (l .entries) ≡ 8) (i :
         → Turned 3 n j (i + 1) (getD (l .entries) i d .bitmap) (getD (l .entries) i d .pointer) i′
         → Recounts n c (take (i + 1) (counted l)) (record { judged = i′; spent = t })
     recount-more d i′ t one turned =
-        let counts : i < l .count = omega (arith, length-counted l eight, more) in
-        let own : getD (counted l) i d ≡ getD (l .entries) i d = getD-take (l .count) (l .entries) i d counts in
-        let next : take (i + 1) (counted l) ≡ take i (counted l) ++ (getD (l .entries) i d ∷ []) = rw (add-one i, take-suc (counted l) i d more, own) in
+        let next = counted-more l eight i d more in
         record {
           judges = rw next (judges-more _ _ 3 n (take i (counted l)) (getD (l .entries) i d) (i + 1) (rw long) (so .judges) turned);
           spent = one ∙ rw (so .spent, next) (spent-more c (take i (counted l)) (getD (l .entries) i d));

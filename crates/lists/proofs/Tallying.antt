@@ -12,6 +12,7 @@ use Rattle.rows.specs.Row.{pick, among}
 use Rattle.rows.proofs.Margins.{both}
 use Rattle.lists.specs.Tally.{inUse, usedUp, howMany, mask, positions, tallyOf, samePositions, sameTally, bitOf, raised, lowered, oneMore, oneLess, entered, removed, revalued, atPointer, freeFrom, freeOf}
 use Rattle.lists.specs.inner.Judging.{spentOf}
+use Rattle.lists.specs.List.{noPositions, noTally}
 use Rattle.lists.specs.Entries.{recoded, recodedAt, without}
 use Rattle.lists.specs.declared.list.Entry.{Entry}
 use Rattle.lists.specs.declared.tally.Positions.{Positions}
@@ -125,6 +126,18 @@ pub tally-entered : (c : ℕ) (es : List Entry) (e : Entry) → length es < 8
     → atPointer c (e .pointer) (entered (e .pointer) (e .priority)) (tallyOf c es) ≡ tallyOf c (es ++ (e ∷ []))
 tally-entered c es e room =
     at-pointer c (e .pointer) (entered (e .pointer) (e .priority)) es (es ++ (e ∷ [])) (entered-own es e room) (entered-other es e)
+
+-- Of no entries.
+pub tally-none : (c : ℕ) → noTally ≡ tallyOf c []
+unfolding tallyOf
+tally-none c = both-kinds (none (λ p. leb p c)) (none (λ p. not (leb p c)))
+  where
+    off : (t : Bool) → false ≡ t && false
+    off true = refl
+    off false = refl
+
+    none : (kind : ℕ → Bool) → noPositions ≡ positions kind []
+    none kind = alike _ _ (mask-same 8 1 (λ p. false) _ (λ p low high. off (kind p))) refl
 
 -- Without the entries of a pointer.
 out-of-use : (q : ℕ) (es : List Entry) → inUse (without q es) q ≡ false

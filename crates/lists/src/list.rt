@@ -9,9 +9,9 @@ ghost use Rattle.rows.specs.table.BestContracts.{entry, contractList};
 ghost use Rattle.lists.specs.inner.Steps.{obeyed, tallied, EntryTook, RestTook, EntryGave};
 ghost use Rattle.lists.specs.inner.Judging.{Recounts};
 ghost use Rattle.bits.specs.Bits.{bit};
-ghost use Rattle.lists.specs.List.{entryNumbers, numbersOf, outside, listFault, listRead, listWritten, noList, fair};
+ghost use Rattle.lists.specs.List.{entryNumbers, entryOf, numbersOf, listOf, outside, listFault, listRead, listWritten, noList, fair};
 ghost use Rattle.lists.specs.Entries.{counted, withPriority, appended, withoutPointer};
-ghost use Rattle.lists.specs.Tally.{usedUp, freeOf};
+ghost use Rattle.lists.specs.Tally.{usedUp, tallyOf, freeOf};
 ghost use Rattle.records.specs.Answer.{Written};
 use crate::rules;
 use crate::rules::COUNT_BITS;
@@ -127,6 +127,21 @@ impl Entry {
         }
     }
 
+    // The entry whose numbers stand from i on.
+    fn at(numbers: [u32; 49], i: usize) -> Entry
+        requires { ⌜ i ≤ 43 ⌝ }
+        ensures { λ r. ⌜ r ≡ entryOf numbers i ⌝ }
+    {
+        Entry {
+            bitmap: numbers[i],
+            network: numbers[i + 1],
+            key: numbers[i + 2],
+            kind: numbers[i + 3],
+            priority: numbers[i + 4],
+            pointer: numbers[i + 5],
+        }
+    }
+
     // 1 where it is used up, else 0.
     fn used_up(self) -> u32
         ensures { λ r. ⌜ r ≡ bit (usedUp self) ⌝ }
@@ -150,6 +165,101 @@ impl ContractList {
         entries: [Entry::NONE; 8],
         tally: Tally::NONE,
     };
+
+    // Its numbers in card order.
+    pub fn numbers(self) -> [u32; 49]
+        ensures { λ r. ⌜ r ≡ numbersOf self ⌝ }
+    {
+        let es = self.entries;
+        [
+            self.count,
+            es[0].bitmap,
+            es[0].network,
+            es[0].key,
+            es[0].kind,
+            es[0].priority,
+            es[0].pointer,
+            es[1].bitmap,
+            es[1].network,
+            es[1].key,
+            es[1].kind,
+            es[1].priority,
+            es[1].pointer,
+            es[2].bitmap,
+            es[2].network,
+            es[2].key,
+            es[2].kind,
+            es[2].priority,
+            es[2].pointer,
+            es[3].bitmap,
+            es[3].network,
+            es[3].key,
+            es[3].kind,
+            es[3].priority,
+            es[3].pointer,
+            es[4].bitmap,
+            es[4].network,
+            es[4].key,
+            es[4].kind,
+            es[4].priority,
+            es[4].pointer,
+            es[5].bitmap,
+            es[5].network,
+            es[5].key,
+            es[5].kind,
+            es[5].priority,
+            es[5].pointer,
+            es[6].bitmap,
+            es[6].network,
+            es[6].key,
+            es[6].kind,
+            es[6].priority,
+            es[6].pointer,
+            es[7].bitmap,
+            es[7].network,
+            es[7].key,
+            es[7].kind,
+            es[7].priority,
+            es[7].pointer,
+        ]
+    }
+
+    // The list of such numbers, with the tally of its counted entries.
+    pub fn of(c: u32, numbers: [u32; 49]) -> ContractList
+        ensures { λ r. ⌜ r ≡ listOf c numbers ⌝ }
+    {
+        let first = Entry::at(numbers, 1);
+        let second = Entry::at(numbers, 7);
+        let third = Entry::at(numbers, 13);
+        let fourth = Entry::at(numbers, 19);
+        let fifth = Entry::at(numbers, 25);
+        let sixth = Entry::at(numbers, 31);
+        let seventh = Entry::at(numbers, 37);
+        let eighth = Entry::at(numbers, 43);
+        let mut list = ContractList {
+            count: numbers[0],
+            entries: [first, second, third, fourth, fifth, sixth, seventh, eighth],
+            tally: Tally::NONE,
+        };
+        let tally = list.fresh_tally(c);
+        list.tally = tally;
+        list
+    }
+
+    // A fresh tally of the counted entries.
+    fn fresh_tally(self, c: u32) -> Tally
+        ensures { λ r. ⌜ r ≡ tallyOf c (counted self) ⌝ }
+    {
+        let n = self.len();
+        let mut tally = Tally::NONE;
+        let mut i = 0;
+        while i < n {
+            let entry = self.entries[i];
+            tally = tally.with(c, entry.pointer, entry.priority);
+            i += 1;
+        }
+        tally
+    }
 
     // The list with another priority at a position, from 1. A position that there is not changes nothing.
     pub fn with_priority(mut self, c: u32, position: u32, code: u32) -> ContractList

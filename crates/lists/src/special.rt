@@ -8,7 +8,7 @@ ghost use Rattle.rows.specs.inner.Line.{start, Taken, Puts};
 ghost use Rattle.rows.specs.table.Special.{entry, specialList};
 ghost use Rattle.records.specs.Answer.{Written};
 ghost use Rattle.lists.specs.inner.Steps.{EntryTook, EntryGave};
-ghost use Rattle.lists.specs.Special.{entryNumbers, numbersOf, specialFault, specialRead, specialWritten, noSpecial};
+ghost use Rattle.lists.specs.Special.{entryNumbers, entryOf, numbersOf, specialOf, specialFault, specialRead, specialWritten, noSpecial};
 use crate::rules;
 use crate::rules::COUNT_BITS;
 use records::BITS;
@@ -49,6 +49,20 @@ impl SpecialEntry {
         seriousness: 0,
         pointer: 0,
     };
+
+    // The entry whose numbers stand from i on.
+    fn at(numbers: [u32; 21], i: usize) -> SpecialEntry
+        requires { ⌜ i ≤ 16 ⌝ }
+        ensures { λ r. ⌜ r ≡ entryOf numbers i ⌝ }
+    {
+        SpecialEntry {
+            bitmap: numbers[i],
+            network: numbers[i + 1],
+            provider: numbers[i + 2],
+            seriousness: numbers[i + 3],
+            pointer: numbers[i + 4],
+        }
+    }
 }
 
 impl SpecialList {
@@ -59,6 +73,49 @@ impl SpecialList {
         count: 0,
         entries: [SpecialEntry::NONE; 4],
     };
+
+    // Its numbers in card order.
+    pub fn numbers(self) -> [u32; 21]
+        ensures { λ r. ⌜ r ≡ numbersOf self ⌝ }
+    {
+        let es = self.entries;
+        [
+            self.count,
+            es[0].bitmap,
+            es[0].network,
+            es[0].provider,
+            es[0].seriousness,
+            es[0].pointer,
+            es[1].bitmap,
+            es[1].network,
+            es[1].provider,
+            es[1].seriousness,
+            es[1].pointer,
+            es[2].bitmap,
+            es[2].network,
+            es[2].provider,
+            es[2].seriousness,
+            es[2].pointer,
+            es[3].bitmap,
+            es[3].network,
+            es[3].provider,
+            es[3].seriousness,
+            es[3].pointer,
+        ]
+    }
+
+    pub fn of(numbers: [u32; 21]) -> SpecialList
+        ensures { λ r. ⌜ r ≡ specialOf numbers ⌝ }
+    {
+        let first = SpecialEntry::at(numbers, 1);
+        let second = SpecialEntry::at(numbers, 6);
+        let third = SpecialEntry::at(numbers, 11);
+        let fourth = SpecialEntry::at(numbers, 16);
+        SpecialList {
+            count: numbers[0],
+            entries: [first, second, third, fourth],
+        }
+    }
 }
 
 // An entry's numbers, and the cursor behind it.
