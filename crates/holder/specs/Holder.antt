@@ -56,17 +56,18 @@ numbersOf h =
     ∷ h .start4
     ∷ []))))))))
 
-abbrev pub holderOf : List ℕ → List ℕ → Holder
-holderOf vals margin =
+-- A Holder of these texts, this margin, and its other numbers by their slots.
+abbrev pub withTexts : List ℕ → List ℕ → List ℕ → List ℕ → List ℕ → List ℕ → Holder
+withTexts vals surname forename place name margin =
     record {
       bitmap = getD vals 0 0;
       «name_bitmap» = getD vals 1 0;
-      surname = from 2 17 vals;
-      forename = from 19 17 vals;
+      surname = surname;
+      forename = forename;
       «birth_bitmap» = getD vals 36 0;
       «birth_date» = getD vals 37 0;
-      «birth_place» = from 38 23 vals;
-      «birth_name» = from 61 17 vals;
+      «birth_place» = place;
+      «birth_name» = name;
       id = getD vals 78 0;
       country = getD vals 79 0;
       company = getD vals 80 0;
@@ -85,8 +86,11 @@ holderOf vals margin =
       start2 = getD vals 108 0;
       start3 = getD vals 109 0;
       start4 = getD vals 110 0;
-      margin = from 0 15 margin;
+      margin = margin;
     }
+
+abbrev pub holderOf : List ℕ → List ℕ → Holder
+holderOf vals margin = withTexts vals (from 2 17 vals) (from 19 17 vals) (from 38 23 vals) (from 61 17 vals) (from 0 15 margin)
 
 -- The texts and the margin have their length, as every Holder's in code.
 pub record Spelled (h : Holder) : Type 0 where

@@ -2,13 +2,14 @@
 ghost use mathlib.Core.Path.{_≡_};
 ghost use mathlib.Core.List.{[], _∷_};
 ghost use mathlib.Core.Bool.{true};
-ghost use Prim.Native.Nat.{_≤_};
+ghost use Prim.Native.Nat.{_+_, _≤_};
 ghost use lib.ListN.{length};
+ghost use lib.Seq.{paste};
 ghost use Rattle.rows.specs.inner.Step.{Ready, Took, Drafted, Gave};
 ghost use Rattle.rows.specs.inner.Line.{start, Taken, Given};
 ghost use Rattle.rows.specs.table.Holder.{holder};
 ghost use Rattle.records.specs.Answer.{areaLength, from};
-ghost use Rattle.holder.specs.Holder.{numbersOf, unread, holderRead, holderWritten};
+ghost use Rattle.holder.specs.Holder.{numbersOf, withTexts, holderOf, unread, holderRead, holderWritten};
 ghost use Rattle.holder.specs.inner.Steps.{block, ProfileTook, ProfileGave};
 use records::Refusal;
 use rows::Cursor;
@@ -114,6 +115,250 @@ impl Holder {
         start4: 0,
         margin: [0; 15],
     };
+
+    // Its numbers in card order.
+    pub fn numbers(self) -> [u32; 111]
+        ensures { λ r. ⌜ r ≡ numbersOf self ⌝ }
+    {
+        let mut numbers = [0u32; 111];
+        place(&mut numbers, 0, &self.name_numbers());
+        place(&mut numbers, 36, &self.birth_numbers());
+        place(&mut numbers, 78, &self.other_numbers());
+        numbers
+    }
+
+    // The two bitmaps, surname and forename.
+    fn name_numbers(self) -> [u32; 36]
+        ensures { λ r. ⌜ r ≡ from 0 36 (numbersOf self) ⌝ }
+    {
+        let surname = self.surname;
+        let forename = self.forename;
+        [
+            self.bitmap,
+            self.name_bitmap,
+            surname[0],
+            surname[1],
+            surname[2],
+            surname[3],
+            surname[4],
+            surname[5],
+            surname[6],
+            surname[7],
+            surname[8],
+            surname[9],
+            surname[10],
+            surname[11],
+            surname[12],
+            surname[13],
+            surname[14],
+            surname[15],
+            surname[16],
+            forename[0],
+            forename[1],
+            forename[2],
+            forename[3],
+            forename[4],
+            forename[5],
+            forename[6],
+            forename[7],
+            forename[8],
+            forename[9],
+            forename[10],
+            forename[11],
+            forename[12],
+            forename[13],
+            forename[14],
+            forename[15],
+            forename[16],
+        ]
+    }
+
+    // The birth's bitmap, date and place, and the birth name.
+    fn birth_numbers(self) -> [u32; 42]
+        ensures { λ r. ⌜ r ≡ from 36 42 (numbersOf self) ⌝ }
+    {
+        let place = self.birth_place;
+        let name = self.birth_name;
+        [
+            self.birth_bitmap,
+            self.birth_date,
+            place[0],
+            place[1],
+            place[2],
+            place[3],
+            place[4],
+            place[5],
+            place[6],
+            place[7],
+            place[8],
+            place[9],
+            place[10],
+            place[11],
+            place[12],
+            place[13],
+            place[14],
+            place[15],
+            place[16],
+            place[17],
+            place[18],
+            place[19],
+            place[20],
+            place[21],
+            place[22],
+            name[0],
+            name[1],
+            name[2],
+            name[3],
+            name[4],
+            name[5],
+            name[6],
+            name[7],
+            name[8],
+            name[9],
+            name[10],
+            name[11],
+            name[12],
+            name[13],
+            name[14],
+            name[15],
+            name[16],
+        ]
+    }
+
+    // From the id on.
+    fn other_numbers(self) -> [u32; 33]
+        ensures { λ r. ⌜ r ≡ from 78 33 (numbersOf self) ⌝ }
+    {
+        let profiles = self.profiles;
+        [
+            self.id,
+            self.country,
+            self.company,
+            self.profile_count,
+            profiles[0].bitmap,
+            profiles[0].network,
+            profiles[0].number,
+            profiles[0].date,
+            profiles[1].bitmap,
+            profiles[1].network,
+            profiles[1].number,
+            profiles[1].date,
+            profiles[2].bitmap,
+            profiles[2].network,
+            profiles[2].number,
+            profiles[2].date,
+            profiles[3].bitmap,
+            profiles[3].network,
+            profiles[3].number,
+            profiles[3].date,
+            self.data_bitmap,
+            self.card_status,
+            self.telepayment,
+            self.residence,
+            self.commercial_id,
+            self.work_place,
+            self.study_place,
+            self.sale_device,
+            self.authenticator,
+            self.start1,
+            self.start2,
+            self.start3,
+            self.start4,
+        ]
+    }
+
+    // The Holder of such numbers, and a margin.
+    pub fn of(numbers: [u32; 111], margin: [u64; 15]) -> Holder
+        ensures { λ r. ⌜ r ≡ holderOf numbers margin ⌝ }
+    {
+        let mut surname = [0u32; 17];
+        let mut forename = [0u32; 17];
+        let mut birth_place = [0u32; 23];
+        let mut birth_name = [0u32; 17];
+        place(&mut surname, 0, &numbers[2..19]);
+        place(&mut forename, 0, &numbers[19..36]);
+        place(&mut birth_place, 0, &numbers[38..61]);
+        place(&mut birth_name, 0, &numbers[61..78]);
+        Holder::with_texts(numbers, surname, forename, birth_place, birth_name, margin)
+    }
+
+    // The Holder of these texts and this margin, with its other numbers out of all.
+    fn with_texts(
+        numbers: [u32; 111],
+        surname: [u32; 17],
+        forename: [u32; 17],
+        birth_place: [u32; 23],
+        birth_name: [u32; 17],
+        margin: [u64; 15],
+    ) -> Holder
+        ensures { λ r. ⌜ r ≡ withTexts numbers surname forename «birth_place» «birth_name» margin ⌝ }
+    {
+        let profile1 = Profile {
+            bitmap: numbers[82],
+            network: numbers[83],
+            number: numbers[84],
+            date: numbers[85],
+        };
+        let profile2 = Profile {
+            bitmap: numbers[86],
+            network: numbers[87],
+            number: numbers[88],
+            date: numbers[89],
+        };
+        let profile3 = Profile {
+            bitmap: numbers[90],
+            network: numbers[91],
+            number: numbers[92],
+            date: numbers[93],
+        };
+        let profile4 = Profile {
+            bitmap: numbers[94],
+            network: numbers[95],
+            number: numbers[96],
+            date: numbers[97],
+        };
+        Holder {
+            bitmap: numbers[0],
+            name_bitmap: numbers[1],
+            surname,
+            forename,
+            birth_bitmap: numbers[36],
+            birth_date: numbers[37],
+            birth_place,
+            birth_name,
+            id: numbers[78],
+            country: numbers[79],
+            company: numbers[80],
+            profile_count: numbers[81],
+            profiles: [profile1, profile2, profile3, profile4],
+            data_bitmap: numbers[98],
+            card_status: numbers[99],
+            telepayment: numbers[100],
+            residence: numbers[101],
+            commercial_id: numbers[102],
+            work_place: numbers[103],
+            study_place: numbers[104],
+            sale_device: numbers[105],
+            authenticator: numbers[106],
+            start1: numbers[107],
+            start2: numbers[108],
+            start3: numbers[109],
+            start4: numbers[110],
+            margin,
+        }
+    }
+}
+
+// Puts a part of some numbers in its place among them.
+fn place(numbers: &mut [u32], at: usize, part: &[u32])
+    requires { ⌜ at + length (now part) ≤ length (now numbers) ⌝ }
+    ensures { λ r. ⌜ now (numbers .exit) ≡ paste (now (numbers .entry)) at (now (part .entry)) (length (now (part .entry))) ⌝ }
+{
+    let mut i = 0;
+    while i < part.len() {
+        numbers[at + i] = part[i];
+        i += 1;
+    }
 }
 
 fn is_area(n: usize) -> bool
