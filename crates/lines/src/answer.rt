@@ -33,9 +33,14 @@ pub fn number(out: &mut [u8], end: usize, number: u32) -> usize {
 }
 
 pub fn numbers(out: &mut [u8], end: usize, numbers: &[u32]) -> usize {
+    part(out, end, numbers, 0, numbers.len())
+}
+
+// The numbers from one place up to another.
+pub fn part(out: &mut [u8], end: usize, numbers: &[u32], from: usize, to: usize) -> usize {
     let mut last = end;
-    let mut i = 0;
-    while i < numbers.len() {
+    let mut i = from;
+    while i < numbers.len() && i < to {
         last = number(out, last, numbers[i]);
         i += 1;
     }

@@ -14,7 +14,7 @@ pub struct Given {
 pub const AREA_BYTES: usize = 4 * BYTES;
 
 pub fn answer(out: &mut [u8], end: usize, margin: Margin) -> usize {
-    let words = [margin.at0, margin.at64, margin.at128, margin.at192];
+    let words = margin.words();
     let mut bytes = [0u8; BYTES];
     bytes_of(&words, &mut bytes);
     answer::bytes(out, end, &bytes)
@@ -24,12 +24,7 @@ pub fn take(line: &[u8], from: Scan) -> Given {
     let mut words = [0u64; 4];
     let last = take_words(line, from, BYTES, &mut words);
     Given {
-        value: Margin {
-            at0: words[0],
-            at64: words[1],
-            at128: words[2],
-            at192: words[3],
-        },
+        value: Margin::of(words),
         last,
     }
 }

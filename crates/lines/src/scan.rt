@@ -25,7 +25,7 @@ impl Scan {
     };
 }
 
-const LARGEST_LETTER: u32 = 255;
+pub const LARGEST_LETTER: u32 = 255;
 
 // Room for the bytes of any word: two letters a byte.
 pub const BYTES: usize = 4096;
@@ -110,12 +110,18 @@ pub fn at_most(line: &[u8], scan: Scan, most: u32) -> Scan {
     }
 }
 
-// As many letters as the lent ones.
-pub fn letters(line: &[u8], scan: Scan, out: &mut [u32]) -> Scan {
+// As many numbers as the lent ones.
+pub fn numbers(line: &[u8], scan: Scan, out: &mut [u32]) -> Scan {
+    let n = out.len();
+    part(line, scan, u32::MAX, out, 0, n)
+}
+
+// The lent numbers from one place up to another, each at most so much.
+pub fn part(line: &[u8], scan: Scan, most: u32, out: &mut [u32], from: usize, to: usize) -> Scan {
     let mut last = scan;
-    let mut i = 0;
-    while i < out.len() {
-        last = at_most(line, last, LARGEST_LETTER);
+    let mut i = from;
+    while i < out.len() && i < to {
+        last = at_most(line, last, most);
         out[i] = last.number;
         i += 1;
     }
