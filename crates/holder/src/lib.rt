@@ -230,27 +230,31 @@ impl Holder {
         ensures { λ r. ⌜ r ≡ from 78 33 (numbersOf self) ⌝ }
     {
         let profiles = self.profiles;
+        let profile1 = profiles[0];
+        let profile2 = profiles[1];
+        let profile3 = profiles[2];
+        let profile4 = profiles[3];
         [
             self.id,
             self.country,
             self.company,
             self.profile_count,
-            profiles[0].bitmap,
-            profiles[0].network,
-            profiles[0].number,
-            profiles[0].date,
-            profiles[1].bitmap,
-            profiles[1].network,
-            profiles[1].number,
-            profiles[1].date,
-            profiles[2].bitmap,
-            profiles[2].network,
-            profiles[2].number,
-            profiles[2].date,
-            profiles[3].bitmap,
-            profiles[3].network,
-            profiles[3].number,
-            profiles[3].date,
+            profile1.bitmap,
+            profile1.network,
+            profile1.number,
+            profile1.date,
+            profile2.bitmap,
+            profile2.network,
+            profile2.number,
+            profile2.date,
+            profile3.bitmap,
+            profile3.network,
+            profile3.number,
+            profile3.date,
+            profile4.bitmap,
+            profile4.network,
+            profile4.number,
+            profile4.date,
             self.data_bitmap,
             self.card_status,
             self.telepayment,

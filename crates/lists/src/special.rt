@@ -79,28 +79,32 @@ impl SpecialList {
         ensures { λ r. ⌜ r ≡ numbersOf self ⌝ }
     {
         let es = self.entries;
+        let first = es[0];
+        let second = es[1];
+        let third = es[2];
+        let fourth = es[3];
         [
             self.count,
-            es[0].bitmap,
-            es[0].network,
-            es[0].provider,
-            es[0].seriousness,
-            es[0].pointer,
-            es[1].bitmap,
-            es[1].network,
-            es[1].provider,
-            es[1].seriousness,
-            es[1].pointer,
-            es[2].bitmap,
-            es[2].network,
-            es[2].provider,
-            es[2].seriousness,
-            es[2].pointer,
-            es[3].bitmap,
-            es[3].network,
-            es[3].provider,
-            es[3].seriousness,
-            es[3].pointer,
+            first.bitmap,
+            first.network,
+            first.provider,
+            first.seriousness,
+            first.pointer,
+            second.bitmap,
+            second.network,
+            second.provider,
+            second.seriousness,
+            second.pointer,
+            third.bitmap,
+            third.network,
+            third.provider,
+            third.seriousness,
+            third.pointer,
+            fourth.bitmap,
+            fourth.network,
+            fourth.provider,
+            fourth.seriousness,
+            fourth.pointer,
         ]
     }
 
