@@ -64,7 +64,7 @@ part-spread w (x ∷ xs) (suc i) h =
     (part-spread w xs i (λ j. h (suc j)))
 
 -- The bit at a place, as a number and as one of the byte that it stands in.
-part-one : (at : ℕ) (bs : List Bool) → part 1 at bs ≡ bit (getD bs at false)
+pub part-one : (at : ℕ) (bs : List Bool) → part 1 at bs ≡ bit (getD bs at false)
 part-one zero [] = refl
 part-one zero (true ∷ bs) = refl
 part-one zero (false ∷ bs) = refl

@@ -442,7 +442,8 @@ struct UrbanFields {
     last: Cursor,
 }
 
-fn known(kind: u32) -> bool
+// Whether there is such a type.
+pub fn known(kind: u32) -> bool
     ensures { λ r. ⌜ r ≡ known kind ⌝ }
 {
     kind == Contract::CARNET || kind == Contract::URBAN

@@ -86,7 +86,7 @@ impl Profile {
 
 impl Holder {
     // All numbers zero, and nothing in the margin.
-    const ZERO: Holder = Holder {
+    pub const ZERO: Holder = Holder {
         bitmap: 0,
         name_bitmap: 0,
         surname: [0; 17],
@@ -365,7 +365,8 @@ fn place(numbers: &mut [u32], at: usize, part: &[u32])
     }
 }
 
-fn is_area(n: usize) -> bool
+// An area is 1 to 4 records.
+pub fn is_area(n: usize) -> bool
     ensures { λ r. ⌜ r ≡ areaLength n ⌝ }
 {
     if n == 29 {

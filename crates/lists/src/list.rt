@@ -411,7 +411,7 @@ struct RestTaken {
 }
 
 // Whether n is no number of contract records that a card may have, or c none of counter positions among them.
-fn outside(n: u32, c: u32) -> bool
+pub fn outside(n: u32, c: u32) -> bool
     ensures { λ r. ⌜ r ≡ outside n c ⌝ }
 {
     (n < 1) | (ContractList::MOST < n) | (ContractList::MOST_COUNTERS < c) | (n < c)

@@ -54,7 +54,7 @@ took-refused words end c t ws rule vs ready why =
     record { ready = ready; counted = omega arith; step = λ bs long cuts k rs seen told small. rw (ne-eqb _ _ why) }
 
 -- A field that is absent has boxes of no bits, which hold zeros.
-numbers-none : (ws : List ℕ) (bs : List Bool) → numbers (map (λ (w : ℕ). 0) ws) bs ≡ map (λ (w : ℕ). 0) ws
+pub numbers-none : (ws : List ℕ) (bs : List Bool) → numbers (map (λ (w : ℕ). 0) ws) bs ≡ map (λ (w : ℕ). 0) ws
 numbers-none [] bs = refl
 numbers-none (w ∷ ws) bs = ap (λ (l : List ℕ). 0 ∷ l) (numbers-none ws bs)
 
