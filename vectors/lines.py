@@ -12,7 +12,7 @@ PADDED = f"special.read {ZEROS} "
 def requests():
     """Bytes, since some of these lines are not text."""
     for family in (words, numbers, byte_strings, separators, flags, codes, tags, margins, counters, tallies,
-                   long_lines):
+                   long_lines, second_reader, long_second_lines):
         for line in family():
             yield line if isinstance(line, bytes) else line.encode()
 
@@ -161,3 +161,36 @@ def long_lines():
     yield f"join {'11' * 29} {'22' * 4000} {'33' * 29}"
     yield PADDED + "4".rjust(10000, "0")
     yield f"special.read {ZEROS} 4"
+
+
+# Q-6: the words behind the record
+SECOND_WORDS = {"env": [], "holder": [], "event": [], "special": ["4"], "list": ["8", "4"], "contract": ["66"]}
+
+
+def second_reader():
+    """Each request of Q-6 with its words, with other ones, and names that are none."""
+    for structure, parameters in SECOND_WORDS.items():
+        name, rest = f"lab.{structure}", " ".join([ZEROS, *parameters])
+        good = f"{name} {rest}"
+        yield from (good, name, good[:good.rindex(" ")], f"{good} 0", f"{good} {ZEROS}", f" {good}", f"{good} ",
+                    f"{good}\r", f"{name}  {rest}", f"{name}\t{rest}")
+        yield from (f"{other} {rest}" for other in (f"Lab.{structure}", name.upper(), f"lab{structure}",
+                                                    f"lab {structure}", f"lab.{structure}.read", f"{name}s",
+                                                    f"{structure}.lab", f"lab.{structure[:-1]}", structure))
+        for lent in ("0", ZEROS[1:], ZEROS + "0", ZEROS[2:] + "0G", "ff" * 29, "--", "0x" + ZEROS, ""):
+            yield " ".join([name, lent, *parameters])
+        for index in range(len(parameters)):
+            for number in ("4294967295", "4294967296", "0" * 40 + parameters[index], "+4", "-4", "-", "4.0", "0x4", "x",
+                           "", ZEROS):
+                yield " ".join([name, ZEROS, *parameters[:index], number, *parameters[index + 1:]])
+    yield from ("lab", "lab.", f"lab {ZEROS}", f"lab. {ZEROS}", f"lab.unknown {ZEROS}", f"lab.read {ZEROS}")
+    yield from (f"lab.find {ZEROS} {ZEROS} {ZEROS}", f"lab.select {ZEROS} {ZEROS} 1 0 0 0",
+                f"lab.priority {ZEROS} 1 0 1 1", f"lab.env.write {ZEROS} {ENV_ZEROS} {ZEROS}",
+                f"lab.env {ZEROS} {ENV_ZEROS} {ZEROS}")
+
+
+def long_second_lines():
+    for length in (LONGEST, LONGEST + 1):
+        before = f"lab.special {ZEROS} "
+        yield before + "4".rjust(length - len(before), "0")
+    yield f"lab.special {ZEROS} 4"

@@ -8,6 +8,7 @@ from collections import Counter
 from pathlib import Path
 from random import Random
 
+import approval
 import cards
 import codes
 import fields
@@ -47,15 +48,20 @@ POSSIBLE = {
     "join": {0, 1},
 }
 
+# Q-6: the requests to the second reader, each with the one to the working reader that answers the same.
+SECOND_READER = {f"lab.{structure}": f"{structure}.read"
+                 for structure in ("env", "holder", "event", "special", "list", "contract")}
+POSSIBLE.update({name: POSSIBLE[reader] for name, reader in SECOND_READER.items()})
+
 # Q-2: who walks over each structure, by itself or as a record of a card. A contract goes by its type.
 WALKS = {
-    "env": ("env.read", "env.write"),
-    "holder": ("holder.read", "holder.write"),
-    "event": ("event.read", "event.write", "load's journal", "load's records"),
-    "special": ("special.read", "special.write", "load"),
-    "list": ("list.read", "list.write", "select", "priority", "load"),
-    "contract 66": ("contract.read", "contract.write", "load"),
-    "contract 80": ("contract.read", "contract.write", "load"),
+    "env": ("env.read", "env.write", "lab.env"),
+    "holder": ("holder.read", "holder.write", "lab.holder"),
+    "event": ("event.read", "event.write", "lab.event", "load's journal", "load's records"),
+    "special": ("special.read", "special.write", "lab.special", "load"),
+    "list": ("list.read", "list.write", "lab.list", "select", "priority", "load"),
+    "contract 66": ("contract.read", "contract.write", "lab.contract", "load"),
+    "contract 80": ("contract.read", "contract.write", "lab.contract", "load"),
     "new list": ("load",),
 }
 
@@ -117,7 +123,7 @@ PARAMETERS = {"special": 1, "list": 2, "contract": 1}     # how many numbers fol
 TYPE_REFUSED = "3 0 0"
 ALL_ONES = "FF" * 32                                      # all codes marked
 P2_ENTRIES = "6 0 0 16 6 1 6 0 2 16 9 2 6 0 2 5 15 3" + " 0" * 30
-C_AT = {"list.read": 2, "list.write": 2, "select": 3, "priority": 2}     # which word is C; the one before is N
+C_AT = {"list.read": 2, "list.write": 2, "lab.list": 2, "select": 3, "priority": 2}     # which word is C, behind N
 UP_TO_TALLY = 3 + 49                                      # words of an answer of list.read
 ANY_TALLIES = [0, 0, 0, 0], [1, 0, 0, 0], [0, 128, 0, 1], [4294967295] * 4
 TALLY_REFUSED = "6 0 0 "
@@ -204,6 +210,28 @@ def check_tally_samples():
     assert ask(f"list.read {cards.P2_LIST} 3 4") == ask(f"list.read {cards.P2_LIST} 4 5") == "11 0 0"
 
 
+def check_second_samples():
+    """Q-6 by hand: the samples of document 01 that are readings; an Environment with its card status and a Holder with
+    a profile, both with a margin of ones; a Holder whose surname has two letters."""
+    zeros, ones = "0" * 58, "1" * 232
+    assert ask(f"lab.list {zeros} 4 4") == "0 0 0 0" + " 0" * 52                                           # P1
+    assert ask(f"lab.list {cards.P2_LIST} 4 4") == f"0 0 0 3 {P2_ENTRIES} 7 0 1 0"                         # P2
+    assert ask("lab.list 1C021A1" + "0" * 51 + " 4 4") == "4 7 3"                                          # P6
+    assert [contract_bits(groups, "lab.contract") for groups in (0xD843, 0x810D, 0x0030)] == [207, 198, 142]    # P7
+    assert ask(f"lab.event {cards.record(cards.bits((0, 25), (1 << 17, 28)))}") == "2 53 20"               # P8
+    assert ask(f"lab.event {cards.event(0, 1439, code=None)}") == "0 0 0 0 1439" + " 0" * 33 + f" {zeros}"  # P9
+    assert ask(f"lab.event {cards.event(0, 1440, code=None)}") == "4 14 1"
+    assert ask(f"lab.list {zeros[2:]}01 4 4") == "5 231 0"                                                 # P10
+    assert ask(f"lab.special {zeros[2:]}01 0") == "5 231 0"
+    status = cards.record(cards.bits((3, 6), (64, 7), (1, 2), (1, 1)) + ones)
+    assert ask(f"lab.env {status}") == f"0 0 0 3 64 0 0 0 0 0 0 1 1 0000{'F' * 54}"
+    profile = cards.record(cards.bits((64, 8), (1, 4), (2, 3), (9, 8)) + ones)
+    assert ask(f"lab.holder {profile}") == (
+        "0 0 0 64" + " 0" * 80 + " 1 2 0 9 0" + " 0" * 25 + f" 000001{'F' * 52}" + "0" * 174)
+    surname = cards.record(cards.bits((1, 8), (1, 2), (1, 5), (2, 5)))
+    assert ask(f"lab.holder {surname}") == "0 0 0 1 1 1 2" + " 0" * 107 + f" {'0' * 232}"
+
+
 def loaded_pointers(listed, erasable, needs_counter):
     """The pointer taken and the pointers of the new list."""
     *refusal, pointer, new_list, _ = ask(cards.p4_line(listed, erasable, needs_counter)).split(" ")
@@ -212,10 +240,10 @@ def loaded_pointers(listed, erasable, needs_counter):
     return int(pointer), [entry.pointer for entry in model.contract_entries(numbers)]
 
 
-def contract_bits(groups):
+def contract_bits(groups, reader="contract.read"):
     """How many bits a 50h contract takes: where the margin begins if all bits after the last box known are ones."""
     boxes = cards.bits((0b1100011, 7), (0, 8 + 16 + 8), (0, 14 + 14 + 16 + 2), (groups, 16))
-    *_, margin = ask(f"contract.read {cards.record(boxes.ljust(232, '1'))} 80").split(" ")
+    *_, margin = ask(f"{reader} {cards.record(boxes.ljust(232, '1'))} 80").split(" ")
     return margin_bits(margin).index("1")
 
 
@@ -281,6 +309,20 @@ def raised(record, margin):
     """The record with the ones of the margin, of which none lies past its end."""
     number = int(record, 16) | int(margin[:len(record)], 16)
     return f"{number:0{len(record)}X}"
+
+
+def check_second_reader(requests):
+    """Q-6: "For every byte string it must be shown to give the same refusal, place and values as the working reader":
+    for each request to either, bad lines included. The names are of different lengths, so lines at the limit of length
+    are left out."""
+    pairs = [(name.encode(), reader.encode()) for name, reader in SECOND_READER.items()]
+    partners = {**dict(pairs), **{reader: name for name, reader in pairs}}
+    for request in requests:
+        name, *words = request.split(b" ")
+        if name in partners:
+            other = b" ".join([partners[name], *words])
+            if max(len(request), len(other)) <= model.LONGEST_LINE:
+                assert model.answer(request) == model.answer(other), request
 
 
 def check_cards(requests):
@@ -518,10 +560,9 @@ def walk_at_fault(request, answer):
     """The structure at fault and who walks over it. Q-2: "Every operation that passes such a refusal on passes this
     number on": the first record that does not read has the same three numbers when it is read by itself."""
     name, *words = request.split(" ")
-    if name in ("contract.read", "contract.write"):
-        return f"contract {words[1]}", name
     if "." in name:
-        return name.split(".")[0], name
+        structure, _, _ = SECOND_READER.get(name, name).partition(".")
+        return f"contract {words[1]}" if structure == "contract" else structure, name
     for structure, who, reading in readings(name, words):
         refused = ask(reading)
         if not refused.startswith("0 "):
@@ -569,6 +610,7 @@ def main(stdin=DEFAULT_STDIN, stdout=DEFAULT_STDOUT):
     check_margin_samples()
     check_code_samples()
     check_tally_samples()
+    check_second_samples()
     drawn = drawn_requests()
     check_round_trips(drawn)
     check_margins(drawn)
@@ -578,7 +620,10 @@ def main(stdin=DEFAULT_STDIN, stdout=DEFAULT_STDOUT):
     check_tallies(drawn)
     check_changed_lists(drawn)
     check_places(drawn)
-    requests = [line.encode() for line in drawn] + list(lines.requests())
+    second = list(approval.requests(drawn))
+    check_counters(second)
+    requests = [line.encode() for line in drawn] + list(lines.requests()) + [line.encode() for line in second]
+    check_second_reader(requests)
     answers = [model.answer(request) for request in requests]
     pairs = count_pairs(requests, answers)
     check_pairs(pairs)

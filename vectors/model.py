@@ -1,15 +1,18 @@
-"""A plain model of the operations, written from document 01, from requests Q-2, Q-3, Q-7 and Q-8 of document 02, and
-from nothing else.
+"""A plain model of the operations, written from document 01, from requests Q-2, Q-3, Q-6, Q-7 and Q-8 of document 02,
+and from nothing else.
 
 `answer(line)` takes one request line of REPLAY.md (bytes, without its line feed) and gives the answer line.
 
 Every layout of document 01 is one `walk_...` function. It goes over the fields in card order and is handed either a
 `Reading` (which takes the numbers from a lent record) or a `Writing` (which puts lent numbers into a new record). So
 reading and writing hold to one and the same description. What 01 says is quoted or named beside the lines that do it.
+The second reader of Q-6 has tables of its own, in `lab.py`.
 """
 
 import re
 from collections import namedtuple
+
+import lab
 
 RECORD = 29                      # "A record is 29 bytes, 232 bits."
 HOLDER_AREAS = (29, 58, 87, 116)
@@ -483,6 +486,11 @@ def require_list_rule(entries, complete, highest):
 def read_contract_list(record, positions, counters):
     """Gives the numbers, the tally last. 5, then 6."""
     numbers = numbers_of(read_walk(record, walk_contract_list, positions))
+    return with_tally(numbers, positions, counters)
+
+
+def with_tally(numbers, positions, counters):
+    """The list's numbers, which must keep the list rule, and its tally."""
     require_contract_list_rule(numbers, positions)
     return numbers + list(tally(contract_entries(numbers), counters))
 
@@ -621,6 +629,58 @@ def contract_write(record, kind, *numbers):
     require_lengths((record, RECORD))
     require_type(kind)
     return [write_walk(RECORD, numbers, walk_contract, kind)]
+
+
+# ---------------------------------------------------------------- The second reader
+
+def lab_numbers(layout, record):
+    """The numbers in all slots, then the margin, if the layout has one."""
+    state = lab.run(layout, record)
+    if state.refusal:
+        raise Refused(*state.refusal)
+    margin = [to_bytes(state.margin.ljust(8 * layout.margin, "0"))] if layout.margin else []
+    return list(state.slots) + margin
+
+
+def lab_environment(record):
+    require_lengths((record, RECORD))
+    return lab_numbers(lab.ENVIRONMENT, record)
+
+
+def lab_holder(area):
+    require_area(area)
+    return lab_numbers(lab.HOLDER, area)
+
+
+def lab_event(record):
+    require_lengths((record, RECORD))
+    numbers = lab_numbers(lab.EVENT, record)
+    del numbers[lab.EVENT_17]
+    return numbers
+
+
+def lab_special(record, specials):
+    require_lengths((record, RECORD))
+    require(specials <= MOST_SPECIALS)
+    numbers = lab_numbers(lab.SPECIAL_LIST, record)
+    require_special_list_rule(numbers, specials)
+    return numbers
+
+
+def lab_list(record, positions, counters):
+    require_lengths((record, RECORD))
+    require(card_limits(positions, counters))
+    return with_tally(lab_numbers(lab.contract_list(positions), record), positions, counters)
+
+
+def lab_contract(record, kind):
+    """Where the data do not follow, their slots have only zeros and the value has none."""
+    require_lengths((record, RECORD))
+    require_type(kind)
+    *numbers, margin = lab_numbers(lab.CONTRACTS[kind], record)
+    head, data = numbers[:lab.HEAD_SLOTS], numbers[lab.HEAD_SLOTS:]
+    data_follow = lab.is_there(lab.DATA, head)
+    return head + ([kind, *data] if data_follow else [NO_DATA]) + [margin]
 
 
 # ---------------------------------------------------------------- Which contract the gate uses
@@ -898,6 +958,12 @@ OPERATIONS = {
     b"apply": Operation([byte_string] * 2, apply_writes, first),
     b"find": Operation([byte_string] * 3, find_write, third),
     b"join": Operation([byte_string] * 3, join_writes, third),
+    b"lab.env": Operation([byte_string], lab_environment, nothing),
+    b"lab.holder": Operation([byte_string], lab_holder, nothing),
+    b"lab.event": Operation([byte_string], lab_event, nothing),
+    b"lab.special": Operation([byte_string, NUMBER], lab_special, nothing),
+    b"lab.list": Operation([byte_string] + [NUMBER] * 2, lab_list, nothing),
+    b"lab.contract": Operation([byte_string, NUMBER], lab_contract, nothing),
 }
 
 

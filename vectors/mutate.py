@@ -1,14 +1,18 @@
-"""Shows that the kept vectors notice small faults: each mutation of `model.py` must change at least one answer.
+"""Shows that the kept vectors notice small faults: each mutation of `model.py` or of `lab.py` must change at least one
+answer.
 
-python3 mutate.py [STDIN STDOUT]
+python3 mutate.py [PART [STDIN STDOUT]]
+
+Only those faults are tried that have the part in their name.
 """
 
 import sys
-from functools import partial
-from multiprocessing import Pool
+from itertools import count
 from pathlib import Path
+from random import Random
 from types import ModuleType
 
+import lab
 from make import DEFAULT_STDIN, DEFAULT_STDOUT, HERE
 
 
@@ -157,6 +161,11 @@ CALLS = {
             day <= 16383, minute <= 1439, hours <= 255, key <= 15, kind <= 255, usable_code(priority),
             network < (1 << 24 if has_network else 1))
 """, "", READ_LIST),
+    "second reader": ("""    require_lengths((record, RECORD))
+    require(card_limits(positions, counters))
+""", """    return with_tally(lab_numbers(lab.contract_list(positions), record), positions, counters)
+""", """    lab_numbers(lab.contract_list(positions), record)
+"""),
 }
 
 
@@ -231,8 +240,62 @@ def without_going_on(condition):
         found = place_among(counter_pointers""")
 
 
-# What is wrong, the text of model.py that is right (it occurs once), the text in its place; there may be several such
-# pairs of texts.
+# The second reader's tables, each with its own number of rows.
+TABLES = {
+    "Environment": lab.ENVIRONMENT,
+    "Holder": lab.HOLDER,
+    "Event": lab.EVENT,
+    "special event list": lab.SPECIAL_LIST,
+    "contract list": lab.contract_list(8),
+    "contract of 42h": lab.CONTRACTS[0x42],
+    "contract of 50h": lab.CONTRACTS[0x50],
+}
+AFTER_REFUSAL = "    if state.refusal:\n        return state\n"
+WIDTH = "width = layout.rows[state.row].widths[state.box]"
+ROW_IS_THERE = "is_there(layout.rows[state.row].there, state.slots)"
+BROKEN = "broken(layout.rows[state.row].rule, state.slots[-state.box:])"
+NEXT_ROW = "open_row(layout, state._replace(row=state.row + 1, box=0))"
+RULE_REFUSED = "        return refused(state, number)\n"
+RUNS_PAST = "        return refused(state, 2)\n"
+AT_THE_END = RUNS_PAST + "    return state\n"
+REFUSAL = "refusal=(number, state.first, state.row)"
+IS_MARGIN = "if bit and not layout.margin:"
+ONE_REFUSED = "return state._replace(refusal=(5, state.place, 0))"
+FIELD_BIT = """margin=state.margin + "0")"""
+MARGIN_BIT = "margin=state.margin + str(bit))"
+CLOSED = "    return close_box(layout, state) if state.taken == width else state\n"
+PRESENT_ROWS = "sum(is_there(row.there, state.slots) for row in layout.rows[:state.row])"
+PADDED = ("    kind, slot, number = there\n", "    kind, slot, number = there\n    slots = (*slots, *[0] * 200)\n",
+          AT_THE_END, RUNS_PAST + """    all_slots = sum(len(row.widths) for row in layout.rows)
+    return state._replace(slots=(*state.slots, *[0] * 200)[:all_slots])
+""")
+
+
+def faults_of_rows():
+    """In each row of the second reader's tables. A wider [17] does not fit, either; a list's count has other faults."""
+    for name, layout in TABLES.items():
+        for index, row in enumerate(layout.rows):
+            where = f"second reader: {name}, row {index}"
+            here = f"(len(layout.rows), state.row) == ({len(layout.rows)}, {index})"
+            kind, slot, number = row.there
+            if row.widths != (240,):
+                yield f"{where}: a bit more", WIDTH, f"{WIDTH} + ({here})"
+            if row.there != lab.ALWAYS:
+                other = f"{kind, slot, number + 1} if {here} else layout.rows[state.row].there"
+                yield f"{where}: by the next element", ROW_IS_THERE, f"is_there({other}, state.slots)"
+            if row.rule != lab.ANY and (layout.margin or index):
+                yield f"{where}: any number", BROKEN, f"0 if {here} else {BROKEN}"
+
+
+def faults_of_margins():
+    """A list may have one, or another structure has none."""
+    for name, layout in TABLES.items():
+        here = f"len(layout.rows) == {len(layout.rows)}"
+        yield f"second reader: the margin of the {name}", IS_MARGIN, f"if bit and (not layout.margin) != ({here}):"
+
+
+# What is wrong, the text of model.py or of lab.py that is right (it occurs once), the text in its place; there may be
+# several such pairs of texts.
 MUTATIONS = [
     ("the first bitmap bit is element [0]",
      "for element in range(width)]",
@@ -1381,7 +1444,7 @@ MUTATIONS = [
     # Q-8: as words
     *[(f"{call}: C stands before N", f"def {name}, positions, counters", f"def {name}, counters, positions")
       for call, name in (("reading a list", "list_read(record"), ("writing a list", "list_write(record"),
-                         ("selection", "select(contract_list, file"),
+                         ("second reader", "lab_list(record"), ("selection", "select(contract_list, file"),
                          ("change of priority", "change_priority(contract_list"))],
     ("selection: C stands last",
      "select(contract_list, file, positions, counters, day, operator)",
@@ -1410,39 +1473,282 @@ MUTATIONS = [
 """),
     ("a number of the tally above 255 is a bad line",
      "[NUMBER] * 2 + [NUMBER] * 53", "[NUMBER] * 2 + [NUMBER] * 49 + [LETTER] * 4"),
+
+    # Q-6: the bits and the boxes
+    ("second reader: a byte's low bit comes first",
+     "byte >> down & 1", "byte >> 7 - down & 1"),
+    ("second reader: a number's low bit comes first",
+     "number=2 * state.number + bit", "number=state.number + (bit << state.taken)"),
+    ("second reader: a number goes on from the one before it",
+     "box=state.box + 1, taken=0, number=0)", "box=state.box + 1, taken=0)"),
+    ("second reader: of an area the first record is read",
+     "    for byte in record:\n", "    for byte in record[:29]:\n"),
+    ("second reader: the first bit is bit 1",
+     "number=0, place=0", "number=0, place=1"),
+
+    # Q-6: the tables
+    *faults_of_rows(),
+    ("second reader: a letter has six bits",
+     "row(*[5] * letters", "row(*[6] * letters"),
+    ("second reader: a letter has four bits",
+     "row(*[5] * letters", "row(*[4] * letters"),
+    ("second reader: the key has the type's bits",
+     "row(4, 8, 4,", "row(8, 4, 4,"),
+    ("second reader: the priority has the type's bits",
+     "row(4, 8, 4,", "row(4, 4, 8,"),
+    ("second reader: element [17] has 24 bits",
+     "              16, 8, 5, 240,", "              16, 8, 5, 24,"),
+    ("second reader: all profiles go by the first one's bitmap",
+     "bitmap = 82 + 4 * index", "bitmap = 82"),
+    ("second reader: all special events go by the first one's bitmap",
+     "bitmap = 1 + 5 * index", "bitmap = 1"),
+    ("second reader: all contracts go by the first one's bitmap",
+     "bitmap = 1 + 6 * index", "bitmap = 1"),
+    ("second reader: the groups of 50h go by the head's bitmap",
+     "row(width, there=marked(13, element))", "row(width, there=marked(0, element))"),
+    ("second reader: a contract's data always follow",
+     "DATA = marked(0, 6)", "DATA = ALWAYS"),
+
+    # Q-6: when a row is there
+    ("second reader: the first bitmap bit is element [0]",
+     ROW_IS_THERE, "is_there(turned(layout, layout.rows[state.row].there), state.slots)",
+     "def is_there(there, slots):\n", """def turned(layout, there):
+    kind, slot, number = there
+    width = [width for row in layout.rows for width in row.widths][slot]
+    return kind, slot, width - 1 - number if kind == "marked" else number
+
+
+def is_there(there, slots):
+"""),
+    ("second reader: the slot before the bitmap is asked",
+     "slots[slot] >> number & 1 == 1", "slots[slot - 1] >> number & 1 == 1"),
+    ("second reader: any element that is marked brings all",
+     "slots[slot] >> number & 1 == 1", "slots[slot] != 0"),
+    ("second reader: an entry more is counted",
+     "slots[slot] > number", "slots[slot] >= number"),
+    ("second reader: one absent row is passed over, the next one is there",
+     "    while state.row <", "    if state.row <"),
+    ("second reader: an absent field has no slots",
+     "slots=(*state.slots, *zeros), row=state.row + 1)", "row=state.row + 1)", *PADDED),
+    ("second reader: an absent field has one slot",
+     "zeros = [0] * len(layout.rows[state.row].widths)", "zeros = [0]", *PADDED),
+    ("second reader: an absent field has the number before it",
+     "zeros = [0] *", "zeros = state.slots[-1:] *"),
+
+    # Q-6: the rules
+    ("second reader: the limit of a range is refused",
+     "4 if numbers[0] > number", "4 if numbers[0] >= number"),
+    ("second reader: minute 1440 is a minute",
+     "MINUTE = at_most(1439)", "MINUTE = at_most(1440)"),
+    ("second reader: place code 100000 is a code",
+     "PLACE_CODE = at_most(99999)", "PLACE_CODE = at_most(100000)"),
+    ("second reader: an event may name contract 20",
+     "rule=at_most(19)", "rule=at_most(20)"),
+    ("second reader: there may be five profiles",
+     "there=marked(0, 6), rule=at_most(4)", "there=marked(0, 6), rule=at_most(5)"),
+    ("second reader: there may be three special events",
+     "row(4, rule=at_most(4))", "row(4, rule=at_most(3))"),
+    ("second reader: there may be eight contracts with each N",
+     "rule=at_most(positions)),  ", "rule=at_most(8)),  "),
+    ("second reader: there must be less than N contracts",
+     "rule=at_most(positions)),  ", "rule=at_most(positions - 1)),  "),
+    ("second reader: the rule of a priority is held against the key",
+     "4 if numbers[2] == number", "4 if numbers[0] == number"),
+    ("second reader: the rule of a priority is held against the type",
+     "4 if numbers[2] == number", "4 if numbers[1] == number"),
+    ("second reader: the rule of a priority is held against all of the tariff",
+     "4 if numbers[2] == number", "4 if number in numbers"),
+    ("second reader: priority 12 is refused",
+     """"third is not", 13""", """"third is not", 12"""),
+    ("second reader: priority 14 is refused",
+     """"third is not", 13""", """"third is not", 14"""),
+    ("second reader: the card status is refused, EnvData2 is not",
+     """"element is absent", 1""", """"element is absent", 0"""),
+    ("second reader: EnvData2 is refused with 4",
+     "3 if numbers[0] >> number", "4 if numbers[0] >> number"),
+    ("second reader: the rule of an absent field is held against the number before it",
+     "        zeros = [0]", """        number = broken(layout.rows[state.row].rule, state.slots[-1:] * 3)
+        if number:
+            return refused(state._replace(first=state.place), number)
+        zeros = [0]"""),
+    ("second reader: the last fault wins",
+     RULE_REFUSED, "        state = refused(state, number)\n",
+     AFTER_REFUSAL, "",
+     "if not state.refusal and state.row <", "if state.row <",
+     ONE_REFUSED, ONE_REFUSED.replace("return", "state =")),
+
+    # Q-6: the end of the fields and of the record
+    ("second reader: a field that ends with the record runs past it",
+     "and state.row < len(layout.rows):", "and (state.row < len(layout.rows) or state.first == state.place):"),
+    ("second reader: a field that would begin past the end is let go",
+     "and state.row < len(layout.rows):", "and state.row < len(layout.rows) and state.first < state.place:", *PADDED),
+    ("second reader: the last row is not closed",
+     "if state.row == len(layout.rows):",
+     "if state.row == len(layout.rows) or state.box == len(layout.rows[state.row].widths):",
+     "if state.box == boxes else state", "if state.box == boxes and state.row + 1 < len(layout.rows) else state"),
+
+    # Q-6: the refusals
+    ("second reader: 2 is at the bit past the end",
+     RUNS_PAST, "        return state._replace(refusal=(2, state.place, state.row))\n"),
+    ("second reader: 2 is at the first bit of the box",
+     RUNS_PAST, "        return state._replace(refusal=(2, state.place - state.taken, state.row))\n"),
+    ("second reader: 4 is at the bit behind the field",
+     RULE_REFUSED, "        return refused(state._replace(first=state.place), number)\n"),
+    ("second reader: 4 is at the first bit of the last box",
+     RULE_REFUSED, "        last = layout.rows[state.row].widths[-1]\n"
+                   "        return refused(state._replace(first=state.place - last), number)\n"),
+    ("second reader: a refusal is at the first bit of the row before",
+     NEXT_ROW, NEXT_ROW + "._replace(first=state.first)"),
+    ("second reader: a refusal is at bit 0",
+     "    return state._replace(first=state.place)\n", "    return state\n"),
+    ("second reader: fields are counted from 1",
+     REFUSAL, REFUSAL.replace("state.row", "state.row + 1")),
+    ("second reader: each box is a field",
+     REFUSAL, REFUSAL.replace("state.row", "len(state.slots)")),
+    ("second reader: only fields that are there are counted",
+     RULE_REFUSED, f"        return refused(state._replace(row={PRESENT_ROWS}), number)\n",
+     RUNS_PAST, f"        return refused(state._replace(row={PRESENT_ROWS}), 2)\n"),
+    ("second reader: 5 names the number of fields",
+     ONE_REFUSED, ONE_REFUSED.replace(", 0)", ", state.row)")),
+    ("second reader: 5 is at the first bit after the fields",
+     ONE_REFUSED, ONE_REFUSED.replace("state.place", "state.first")),
+    ("second reader: 5 is at the last one",
+     AFTER_REFUSAL, AFTER_REFUSAL.replace("refusal:", "refusal and state.refusal[0] != 5:"),
+     ONE_REFUSED, ONE_REFUSED.replace("_replace(", "_replace(place=state.place + 1, ")),
+
+    # Q-6: the margin
+    *faults_of_margins(),
+    ("second reader: the margin begins a bit early",
+     CLOSED, CLOSED.replace("return", "state =") + """    if state.row == len(layout.rows):
+        state = state._replace(margin=state.margin[:-1] + str(bit))
+    return state
+"""),
+    ("second reader: the margin begins a bit late",
+     MARGIN_BIT, MARGIN_BIT.replace("str(bit)", """("0" if state.place == state.first else str(bit))""")),
+    ("second reader: the margin begins at bit 0",
+     FIELD_BIT, "margin=state.margin)"),
+    ("second reader: the margin has the fields, too",
+     FIELD_BIT, MARGIN_BIT),
+    ("second reader: the margin ends a bit early",
+     "to_bytes(state.margin.ljust(", "to_bytes(state.margin[:-1].ljust("),
+    ("second reader: the margin of a short Holder area has the area's length",
+     """state.margin.ljust(8 * layout.margin, "0")""", "state.margin"),
+
+    # Q-6: the values
+    ("second reader: the event has a number for [17]",
+     "    del numbers[lab.EVENT_17]\n", ""),
+    ("second reader: the event has no number for [16]",
+     "EVENT_17 = 20", "EVENT_17 = 19"),
+    ("second reader: the event has no number for [18]",
+     "EVENT_17 = 20", "EVENT_17 = 21"),
+    ("second reader: the status is one of the data",
+     "HEAD_SLOTS = 9", "HEAD_SLOTS = 8"),
+    ("second reader: a contract without data has zeros for them",
+     "([kind, *data] if data_follow else [NO_DATA])", "[kind, *data]"),
+    ("second reader: 42h and 50h are exchanged",
+     "lab.CONTRACTS[kind]", "lab.CONTRACTS[TYPE_42 + TYPE_50 - kind]"),
+    ("second reader: a special event list need not keep the list rule",
+     "    require_special_list_rule(numbers, specials)\n    return numbers\n\n\ndef lab_list(",
+     "    return numbers\n\n\ndef lab_list("),
+    ("second reader: a contract list need not keep the list rule",
+     "    return with_tally(lab_numbers(lab.contract_list(positions), record), positions, counters)\n",
+     """    numbers = lab_numbers(lab.contract_list(positions), record)
+    return numbers + list(tally(contract_entries(numbers), counters))
+"""),
+    ("second reader: a contract list has no tally",
+     "    return with_tally(lab_numbers(lab.contract_list(positions), record), positions, counters)\n",
+     "    return with_tally(lab_numbers(lab.contract_list(positions), record), positions, counters)[:-4]\n"),
+
+    # Q-6: the first checks
+    *[(f"second reader: any length, {name}", f"def {name}(record{rest}):\n    require_lengths((record, RECORD))\n",
+       f"def {name}(record{rest}):\n")
+      for name, rest in (("lab_environment", ""), ("lab_event", ""), ("lab_special", ", specials"),
+                         ("lab_list", ", positions, counters"))],
+    ("second reader: any length, lab_holder",
+     "    require_area(area)\n    return lab_numbers(", "    return lab_numbers("),
+    ("second reader: a contract may have any length",
+     "    require_lengths((record, RECORD))\n    require_type(kind)\n    *numbers",
+     "    require_type(kind)\n    *numbers"),
+    ("second reader: a contract's type comes before its length",
+     "    require_lengths((record, RECORD))\n    require_type(kind)\n    *numbers",
+     "    require_type(kind)\n    require_lengths((record, RECORD))\n    *numbers"),
+    ("second reader: of a contract's type the low eight bits count",
+     "    require_type(kind)\n    *numbers", "    kind %= 256\n    require_type(kind)\n    *numbers"),
+    ("second reader: S may be 5",
+     "    require(specials <= MOST_SPECIALS)\n    numbers = lab_numbers",
+     "    require(specials <= MOST_SPECIALS + 1)\n    numbers = lab_numbers"),
+    ("second reader: S must be at least 1",
+     "    require(specials <= MOST_SPECIALS)\n    numbers = lab_numbers",
+     "    require(1 <= specials <= MOST_SPECIALS)\n    numbers = lab_numbers"),
+    ("second reader: S comes before the length",
+     "    require_lengths((record, RECORD))\n    require(specials <= MOST_SPECIALS)\n    numbers = lab_numbers",
+     "    require(specials <= MOST_SPECIALS)\n    require_lengths((record, RECORD))\n    numbers = lab_numbers"),
+
+    # Q-6: as words
+    ("second reader: a word more is let go",
+     "    if len(words) != len(kinds):\n",
+     """    if name.startswith(b"lab."):
+        words = words[:len(kinds)]
+    if len(words) != len(kinds):
+"""),
+    ("second reader: a list without C is taken, and C is 4",
+     "    if len(words) != len(kinds):\n",
+     """    if name == b"lab.list" and len(words) == len(kinds) - 1:
+        words.append(b"4")
+    if len(words) != len(kinds):
+"""),
+    ("second reader: any request may stand behind its name",
+     "    if name not in OPERATIONS:\n",
+     """    if name.startswith(b"lab.") and name[4:] in OPERATIONS:
+        name = name[4:]
+    if name not in OPERATIONS:
+"""),
+    ("second reader: its names may stand behind a structure",
+     "    if name not in OPERATIONS:\n",
+     """    if name.endswith(b".lab"):
+        name = b"lab." + name[:-4]
+    if name not in OPERATIONS:
+"""),
 ]
 
 UNCHANGED = "nothing", "LONGEST_LINE = 8192", "LONGEST_LINE = 8192"
 
 
 def mutated_model(texts):
-    source = (HERE / "model.py").read_text()
+    """`model.py`, which imports `lab.py`, with these texts in either."""
+    sources = {name: (HERE / f"{name}.py").read_text() for name in ("lab", "model")}
     for old, new in zip(texts[::2], texts[1::2]):
-        assert source.count(old) == 1, f"occurs {source.count(old)} times: {old}"
-        source = source.replace(old, new)
-    module = ModuleType("mutated_model")
-    exec(source, module.__dict__)
-    return module
+        occurs = sum(source.count(old) for source in sources.values())
+        assert occurs == 1, f"occurs {occurs} times: {old}"
+        sources = {name: source.replace(old, new) for name, source in sources.items()}
+    for name, source in sources.items():
+        sys.modules[name] = ModuleType(name)
+        exec(source, sys.modules[name].__dict__)
+    return sys.modules["model"]
 
 
-def differences(requests, answers, mutation):
-    """How many answers the mutation changes."""
+def told_by(kept, mutation):
+    """The number of the first of these lines whose answer the mutation changes; None if there is none."""
     _, *texts = mutation
     answer = mutated_model(texts).answer
-    return sum(answer(request) != kept for request, kept in zip(requests, answers))
+    return next((number for number, request, right in kept if answer(request) != right), None)
 
 
-def main(stdin=DEFAULT_STDIN, stdout=DEFAULT_STDOUT):
+def main(part="", stdin=DEFAULT_STDIN, stdout=DEFAULT_STDOUT):
+    """The lines are asked in any order, so that a fault which changes many of their answers is soon noticed."""
     requests = Path(stdin).read_bytes().split(b"\n")
     answers = Path(stdout).read_text().splitlines()
     assert len(requests) == len(answers)
-    assert differences(requests, answers, UNCHANGED) == 0, "the vectors are not those of this model"
-    with Pool() as pool:
-        counts = pool.map(partial(differences, requests, answers), MUTATIONS, chunksize=1)
-    for (fault, *_), count in zip(MUTATIONS, counts):
-        print(f"{count:6} {fault}")
-    unnoticed = counts.count(0)
-    print(f"{len(MUTATIONS)} mutations, {unnoticed} unnoticed")
+    kept = list(zip(count(1), requests, answers))
+    assert told_by(kept, UNCHANGED) is None, "the vectors are not those of this model"
+    Random(0).shuffle(kept)
+    tried = [mutation for mutation in MUTATIONS if part in mutation[0]]
+    unnoticed = 0
+    for mutation in tried:
+        line = told_by(kept, mutation)
+        print(f"{line or 'none':>6} {mutation[0]}", flush=True)
+        unnoticed += line is None
+    print(f"{len(tried)} mutations, {unnoticed} unnoticed")
     return 1 if unnoticed else 0
 
 

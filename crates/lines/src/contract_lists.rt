@@ -4,6 +4,7 @@ use crate::scan;
 use crate::scan::Scan;
 use lists::list;
 use lists::list::ContractList;
+use lists::list::ListRead;
 use lists::tally::Positions;
 use lists::tally::Tally;
 
@@ -13,7 +14,11 @@ pub fn read(line: &[u8], from: Scan, record: &[u8], out: &mut [u8]) -> usize {
     if !scan::ends(line, counters) {
         return 0;
     }
-    let read = list::read(record, contracts.number, counters.number);
+    tell(out, list::read(record, contracts.number, counters.number))
+}
+
+// The answer to a reading.
+pub fn tell(out: &mut [u8], read: ListRead) -> usize {
     let refusal = read.refusal;
     let list = read.list;
     let end = answer::refusal(out, refusal);

@@ -19,7 +19,11 @@ pub fn read(line: &[u8], from: Scan, record: &[u8], out: &mut [u8]) -> usize {
     if !scan::ends(line, kind) {
         return 0;
     }
-    let read = contract::read(record, kind.number);
+    tell(out, contract::read(record, kind.number))
+}
+
+// The answer to a reading.
+pub fn tell(out: &mut [u8], read: ContractRead) -> usize {
     match read {
         ContractRead::Read(value) => answer_contract(out, value),
         ContractRead::Refused(refusal) => answer::refusal(out, refusal),

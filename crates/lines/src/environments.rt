@@ -11,7 +11,11 @@ pub fn read(line: &[u8], from: Scan, record: &[u8], out: &mut [u8]) -> usize {
     if !scan::ends(line, from) {
         return 0;
     }
-    let read = environment::read(record);
+    tell(out, environment::read(record))
+}
+
+// The answer to a reading.
+pub fn tell(out: &mut [u8], read: EnvironmentRead) -> usize {
     match read {
         EnvironmentRead::Read(value) => {
             let end = answer::accepted(out, &value.numbers());

@@ -15,7 +15,11 @@ pub fn read(line: &[u8], from: Scan, record: &[u8], out: &mut [u8]) -> usize {
     if !scan::ends(line, from) {
         return 0;
     }
-    let read = event::read(record);
+    tell(out, event::read(record))
+}
+
+// The answer to a reading.
+pub fn tell(out: &mut [u8], read: EventRead) -> usize {
     match read {
         EventRead::Read(value) => answer_event(out, value),
         EventRead::Refused(refusal) => answer::refusal(out, refusal),

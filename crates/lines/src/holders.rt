@@ -4,12 +4,17 @@ use crate::margins;
 use crate::scan;
 use crate::scan::Scan;
 use holder::Holder;
+use holder::HolderRead;
 
 pub fn read(line: &[u8], from: Scan, area: &[u8], out: &mut [u8]) -> usize {
     if !scan::ends(line, from) {
         return 0;
     }
-    let read = holder::read(area);
+    tell(out, holder::read(area))
+}
+
+// The answer to a reading.
+pub fn tell(out: &mut [u8], read: HolderRead) -> usize {
     let refusal = read.refusal;
     let holder = read.holder;
     let end = answer::refusal(out, refusal);

@@ -4,13 +4,18 @@ use crate::scan;
 use crate::scan::Scan;
 use lists::special;
 use lists::special::SpecialList;
+use lists::special::SpecialRead;
 
 pub fn read(line: &[u8], from: Scan, record: &[u8], out: &mut [u8]) -> usize {
     let records = scan::number(line, from);
     if !scan::ends(line, records) {
         return 0;
     }
-    let read = special::read(record, records.number);
+    tell(out, special::read(record, records.number))
+}
+
+// The answer to a reading.
+pub fn tell(out: &mut [u8], read: SpecialRead) -> usize {
     let refusal = read.refusal;
     let list = read.list;
     let end = answer::refusal(out, refusal);

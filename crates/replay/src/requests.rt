@@ -1,4 +1,5 @@
 // The requests by their words.
+mod approval;
 mod cards;
 mod gate_writes;
 
@@ -108,6 +109,28 @@ fn on_gate(line: &[u8], from: Scan, record: &mut [u8], out: &mut [u8]) -> usize 
     }
     if scan::begins(line, b"join ") {
         return gate_writes::join(line, from, record, out);
+    }
+    on_approval(line, from, record, out)
+}
+
+fn on_approval(line: &[u8], from: Scan, record: &[u8], out: &mut [u8]) -> usize {
+    if scan::begins(line, b"lab.env ") {
+        return approval::environment(line, from, record, out);
+    }
+    if scan::begins(line, b"lab.holder ") {
+        return approval::holder(line, from, record, out);
+    }
+    if scan::begins(line, b"lab.event ") {
+        return approval::event(line, from, record, out);
+    }
+    if scan::begins(line, b"lab.special ") {
+        return approval::special(line, from, record, out);
+    }
+    if scan::begins(line, b"lab.list ") {
+        return approval::list(line, from, record, out);
+    }
+    if scan::begins(line, b"lab.contract ") {
+        return approval::contract(line, from, record, out);
     }
     0
 }
