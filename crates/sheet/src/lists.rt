@@ -50,6 +50,11 @@ fn contract_entry(rows: &[u64], k: usize)
     let first = 1 + 4 * k;
     draw::entry_line(rows, first, b"bitmap of entry", k + 1);
     draw::entry_line(rows, first + 1, b"network of entry", k + 1);
-    draw::entry_line(rows, first + 2, b"tariff (key, type, priority) of entry", k + 1);
+    draw::entry_line(
+        rows,
+        first + 2,
+        b"tariff (key, type, priority) of entry",
+        k + 1,
+    );
     draw::entry_line(rows, first + 3, b"pointer of entry", k + 1);
 }

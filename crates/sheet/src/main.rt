@@ -35,7 +35,5 @@ fn intro() {
     draw::say(
         b"\"Bit 2 of field 1\": the field is there where that bit is one. Bit 0 of a bitmap is its last. `./run sheet` draws this\n",
     );
-    draw::say(
-        b"page from the tables of the second reader, and every check holds it to them.\n",
-    );
+    draw::say(b"page from the tables of the second reader, and every check holds it to them.\n");
 }

@@ -66,7 +66,11 @@ fn account(rows: &[u64]) {
     draw::line(rows, 25, b"distance");
     draw::line(rows, 26, b"price");
     draw::line(rows, 27, b"price unit");
-    draw::line(rows, 28, b"contract pointer: 0 none, 16 to 19 simple rights");
+    draw::line(
+        rows,
+        28,
+        b"contract pointer: 0 none, 16 to 19 simple rights",
+    );
     draw::line(rows, 29, b"authenticator");
     draw::line(rows, 30, b"data, a bitmap");
     draw::line(rows, 31, b"date of the first boarding");
