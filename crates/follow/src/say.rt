@@ -1,4 +1,6 @@
 // What is said of a walk, in the words of docs/APPROVAL.md.
+ghost use Prim.Native.Nat.{_<_};
+ghost use lib.ListN.{length};
 use lab::row;
 use lab::run;
 use lab::state::State;
@@ -37,11 +39,10 @@ pub fn begin(state: State) {
 }
 
 // A bit, the numbers of its field with it, and behind the field's last bit the next one that is there.
-pub fn step(rows: &[u64], before: State, one: bool, after: State) {
+pub fn step(rows: &[u64], before: State, one: bool, after: State)
+    requires { ⌜ before .row < length (now rows) ⌝ }
+{
     let k = before.row;
-    if rows.len() <= k {
-        return;
-    }
     text(b"bit ");
     number(before.at as u64);
     if one {

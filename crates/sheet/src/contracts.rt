@@ -3,11 +3,11 @@ use crate::draw;
 use lab::layouts;
 
 pub fn carnet() {
-    draw::head(b"Contract, type 42h (66)");
     carnet_lines(&layouts::carnet());
 }
 
 fn carnet_lines(rows: &[u64]) {
+    draw::head(b"Contract, type 42h (66)", rows.len());
     head(rows);
     draw::line(rows, 9, b"pay method");
     draw::line(rows, 10, b"price");
@@ -21,11 +21,11 @@ fn carnet_lines(rows: &[u64]) {
 }
 
 pub fn urban() {
-    draw::head(b"Contract, type 50h (80)");
     urban_lines(&layouts::urban());
 }
 
 fn urban_lines(rows: &[u64]) {
+    draw::head(b"Contract, type 50h (80)", rows.len());
     head(rows);
     terms(rows);
     purse(rows);

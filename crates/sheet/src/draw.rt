@@ -11,10 +11,12 @@ fn say_number(number: u64) {
 }
 
 // The head of a structure's table.
-pub fn head(name: &[u8]) {
+pub fn head(name: &[u8], fields: usize) {
     say(b"\n## ");
     say(name);
-    say(b"\n\n| field | name | bits | when it is there | rule |\n|---|---|---|---|---|\n");
+    say(b": ");
+    say_number(fields as u64);
+    say(b" fields\n\n| field | name | bits | when it is there | rule |\n|---|---|---|---|---|\n");
 }
 
 // A row's line.

@@ -4,11 +4,11 @@ use crate::draw;
 use lab::layouts;
 
 pub fn holder() {
-    draw::head(b"Holder");
     lines(&layouts::holder());
 }
 
 fn lines(rows: &[u64]) {
+    draw::head(b"Holder", rows.len());
     person(rows);
     profile(rows, 0);
     profile(rows, 1);

@@ -4,11 +4,11 @@ use crate::draw;
 use lab::layouts;
 
 pub fn special_list() {
-    draw::head(b"Special event list");
     special_lines(&layouts::special_list());
 }
 
 fn special_lines(rows: &[u64]) {
+    draw::head(b"Special event list", rows.len());
     draw::line(rows, 0, b"count");
     special_entry(rows, 0);
     special_entry(rows, 1);
@@ -28,11 +28,11 @@ fn special_entry(rows: &[u64], k: usize)
 }
 
 pub fn contract_list() {
-    draw::head(b"Contract list");
     contract_lines(&layouts::contract_list());
 }
 
 fn contract_lines(rows: &[u64]) {
+    draw::head(b"Contract list", rows.len());
     draw::line(rows, 0, b"count");
     contract_entry(rows, 0);
     contract_entry(rows, 1);

@@ -3,11 +3,11 @@ use crate::draw;
 use lab::layouts;
 
 pub fn environment() {
-    draw::head(b"Environment");
     environment_lines(&layouts::environment());
 }
 
 fn environment_lines(rows: &[u64]) {
+    draw::head(b"Environment", rows.len());
     draw::line(rows, 0, b"version");
     draw::line(rows, 1, b"bitmap");
     draw::line(rows, 2, b"network");
@@ -21,11 +21,11 @@ fn environment_lines(rows: &[u64]) {
 }
 
 pub fn event() {
-    draw::head(b"Event");
     event_lines(&layouts::event());
 }
 
 fn event_lines(rows: &[u64]) {
+    draw::head(b"Event", rows.len());
     occasion(rows);
     journey(rows);
     account(rows);
