@@ -7,24 +7,31 @@ use Rattle.rows.specs.Row.{Row, Cond, always, bit, above, pick}
 use Rattle.rows.specs.declared.Rule.{Rule}
 use Rattle.rows.specs.declared.Rule.the-variants.{Any, Most, Tariff, NoSecond}
 
+-- The width of each of its boxes.
 abbrev pub widthOf : ℕ → ℕ
 widthOf c = c % 256
 
+-- Of a text, how many letters; 0 of any other field.
 abbrev pub lettersOf : ℕ → ℕ
 lettersOf c = c / 256 % 256
 
+-- When it is there: 1 by a bit of a bitmap, 2 by a count, else always;
 abbrev pub whenOf : ℕ → ℕ
 whenOf c = c / 65536 % 256
 
+-- the slot of that bitmap or count,
 abbrev pub slotOf : ℕ → ℕ
 slotOf c = c / 2 ^ 24 % 256
 
+-- and the bitmap's element, or the number that the count is above.
 abbrev pub elementOf : ℕ → ℕ
 elementOf c = c / 2 ^ 32 % 32
 
+-- Its rule: 1 at most a limit, 2 a tariff's, 3 no second element, 4 at most n, else none;
 abbrev pub ruleNumber : ℕ → ℕ
 ruleNumber c = c / 2 ^ 40 % 16
 
+-- and the limit.
 abbrev pub limitOf : ℕ → ℕ
 limitOf c = c / 2 ^ 44
 

@@ -176,7 +176,7 @@ pub fn special(bytes: &[u8], s: u32) -> SpecialRead
     }
     let rows = layouts::special_list();
     let mut numbers = [0u32; 21];
-    let refusal = reading::bare(&rows, s, bytes, &mut numbers);
+    let refusal = reading::bare(&rows, 0, bytes, &mut numbers);
     if refusal.number != 0 {
         return no_special(refusal);
     }

@@ -8,14 +8,27 @@ ghost use Rattle.rows.specs.Walk.{total};
 ghost use Rattle.lab.specs.Layout.{widthOf, lettersOf, whenOf, slotOf, elementOf, ruleNumber, limitOf, condOf, boxesOf, ruleOf};
 ghost use Rattle.lab.specs.Machine.{boxAt};
 
+// How the parts of a row that say when and the rule are numbered; 0 is always, and any number.
+const BY_BIT: u64 = 1;
+
+const BY_COUNT: u64 = 2;
+
+const LIMITED: u64 = 1;
+
+const OF_TARIFF: u64 = 2;
+
+const WITHOUT_SECOND: u64 = 3;
+
+const LIMITED_BY_N: u64 = 4;
+
 // A text of so many letters, each of that width.
 pub const LETTERS: u64 = 1 << 8;
 
 // The field is there where bit [e] of the bitmap in a slot is one: WHEN_BIT + SLOT * slot + BIT * e.
-pub const WHEN_BIT: u64 = 1 << 16;
+pub const WHEN_BIT: u64 = BY_BIT << 16;
 
 // It is there where the count in a slot is above k: WHEN_ABOVE + SLOT * slot + ENTRY * k.
-pub const WHEN_ABOVE: u64 = 2 << 16;
+pub const WHEN_ABOVE: u64 = BY_COUNT << 16;
 
 pub const SLOT: u64 = 1 << 24;
 
@@ -24,18 +37,18 @@ pub const BIT: u64 = 1 << 32;
 pub const ENTRY: u64 = BIT;
 
 // Its number is at most m: AT_MOST + LIMIT * m.
-pub const AT_MOST: u64 = 1 << 40;
+pub const AT_MOST: u64 = LIMITED << 40;
 
 pub const LIMIT: u64 = 1 << 44;
 
 // It is a list's tariff, of three boxes of 4, 8 and 4 bits; the third, the priority, is not 13.
-pub const TARIFF: u64 = 2 << 40;
+pub const TARIFF: u64 = OF_TARIFF << 40;
 
 // Its element [1] is not marked.
-pub const NO_SECOND: u64 = 3 << 40;
+pub const NO_SECOND: u64 = WITHOUT_SECOND << 40;
 
 // Its number is at most that of the card's contract records.
-pub const AT_MOST_N: u64 = 4 << 40;
+pub const AT_MOST_N: u64 = LIMITED_BY_N << 40;
 
 // The parts of a row.
 pub fn width(row: u64) -> u64
@@ -85,7 +98,7 @@ pub fn limit(row: u64) -> u64
 pub fn boxes(row: u64) -> u64
     ensures { λ r. ⌜ r ≡ length (boxesOf row) ⌝ }
 {
-    if rule(row) == 2 {
+    if rule(row) == OF_TARIFF {
         return 3;
     }
     let letters = letters(row);
@@ -99,7 +112,7 @@ pub fn boxes(row: u64) -> u64
 pub fn bits(row: u64) -> u64
     ensures { λ r. ⌜ r ≡ total (boxesOf row) ⌝ }
 {
-    if rule(row) == 2 {
+    if rule(row) == OF_TARIFF {
         return 16;
     }
     let letters = letters(row);
@@ -114,7 +127,7 @@ pub(crate) fn box_at(row: u64, p: u64) -> u64
     requires { ⌜ p < total (boxesOf row) ⌝ }
     ensures { λ r. ⌜ r ≡ boxAt (boxesOf row) p ⌝ }
 {
-    if rule(row) == 2 {
+    if rule(row) == OF_TARIFF {
         if p < 4 {
             return 0;
         }
@@ -146,10 +159,10 @@ pub(crate) fn there(row: u64, numbers: &[u32]) -> bool
 {
     let marks = at(numbers, slot(row));
     let when = when(row);
-    if when == 1 {
+    if when == BY_BIT {
         return (marks >> element(row)) % 2 == 1;
     }
-    if when == 2 {
+    if when == BY_COUNT {
         return element(row) < marks as u64;
     }
     true
@@ -161,16 +174,16 @@ pub(crate) fn broken(row: u64, most: u32, numbers: &[u32], first: u64) -> u32
     ensures { λ r. ⌜ r ≡ broken (ruleOf most row) (drop first (now (numbers .entry))) ⌝ }
 {
     let rule = rule(row);
-    if rule == 1 {
+    if rule == LIMITED {
         return refusal(limit(row) < at(numbers, first) as u64, 4);
     }
-    if rule == 2 {
+    if rule == OF_TARIFF {
         return refusal(at(numbers, first + 2) == 13, 4);
     }
-    if rule == 3 {
+    if rule == WITHOUT_SECOND {
         return refusal(at(numbers, first) / 2 % 2 == 1, 3);
     }
-    if rule == 4 {
+    if rule == LIMITED_BY_N {
         return refusal(most < at(numbers, first), 4);
     }
     0

@@ -170,7 +170,7 @@ impl State {
     }
 }
 
-// A bit behind a number of 32 bits.
+// A bit behind a number of 32 bits, whose top bit is dropped.
 fn behind(number: u32, bit: bool) -> u32
     ensures { λ r. ⌜ r ≡ behind number bit ⌝ }
 {

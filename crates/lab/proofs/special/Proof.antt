@@ -23,7 +23,7 @@ returns-3 : tie.Need-returns-3
 returns-3 c =
     let s = c .before .before .before .before .before .before .before .before .before .before .before .args .s in
     c .no-special3 .ensures
-    ∙ list-stops 21 (c .before .before .before .before .before .before .before .special-list .ensures s) special-slots _ _ (specialFault s) (c .before .before .before .before .bare .ensures) (c .before .before .before .before .before .before .before .before .before .if1 .left) (le-ltb _ _ (c .before .before .before .before .before .before .before .before .if2 .left)) (c .before .if3 .taken)
+    ∙ list-stops 21 (c .before .before .before .before .before .before .before .special-list .ensures 0) special-slots _ _ (specialFault s) (c .before .before .before .before .bare .ensures) (c .before .before .before .before .before .before .before .before .before .if1 .left) (le-ltb _ _ (c .before .before .before .before .before .before .before .before .if2 .left)) (c .before .if3 .taken)
 
 returns-4 : tie.Need-returns-4
 returns-4 c =
@@ -31,14 +31,14 @@ returns-4 c =
     let wrong = rw (c .before .before .before .at-fault .ensures) at (c .before .before .if4 .taken) in
     c .no-special4 .ensures
     ∙ rw (c .before .against .ensures, c .before .before .before .at-fault .ensures)
-    (list-against 21 (c .before .before .before .before .before .before .before .before .before .before .before .special-list .ensures s) special-slots _ _ (specialFault s) (c .before .before .before .before .before .before .before .before .bare .ensures) (c .before .before .before .before .before .before .before .before .before .before .before .before .before .if1 .left) (le-ltb _ _ (c .before .before .before .before .before .before .before .before .before .before .before .before .if2 .left)) (c .before .before .before .before .before .if3 .left) wrong)
+    (list-against 21 (c .before .before .before .before .before .before .before .before .before .before .before .special-list .ensures 0) special-slots _ _ (specialFault s) (c .before .before .before .before .before .before .before .before .bare .ensures) (c .before .before .before .before .before .before .before .before .before .before .before .before .before .if1 .left) (le-ltb _ _ (c .before .before .before .before .before .before .before .before .before .before .before .before .if2 .left)) (c .before .before .before .before .before .if3 .left) wrong)
 
 returns-5 : tie.Need-returns-5
 returns-5 c =
     let s = c .before .before .before .before .before .before .before .before .before .before .before .before .before .before .args .s in
     let right = rw (c .before .before .at-fault .ensures) at (c .before .if4 .left) in
     rw (c .of .ensures)
-    (list-gives 21 (c .before .before .before .before .before .before .before .before .before .before .special-list .ensures s) special-slots _ _ (specialFault s) (c .before .before .before .before .before .before .before .bare .ensures) (c .before .before .before .before .before .before .before .before .before .before .before .before .if1 .left) (le-ltb _ _ (c .before .before .before .before .before .before .before .before .before .before .before .if2 .left)) (c .before .before .before .before .if3 .left) right)
+    (list-gives 21 (c .before .before .before .before .before .before .before .before .before .before .special-list .ensures 0) special-slots _ _ (specialFault s) (c .before .before .before .before .before .before .before .bare .ensures) (c .before .before .before .before .before .before .before .before .before .before .before .before .if1 .left) (le-ltb _ _ (c .before .before .before .before .before .before .before .before .before .before .before .if2 .left)) (c .before .before .before .before .if3 .left) right)
 
 pub special-spec : {M : Type 1} → statement M
 special-spec =
