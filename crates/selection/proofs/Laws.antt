@@ -141,6 +141,12 @@ module _ (list file : List ℕ) (n counters day operator : ℕ) where
       go (sooner r why same) = absurd (why .some (sym (ap (λ (x : Selected). x .refusal .number) same) ∙ right))
       go (later order l read is) = from order l read is (came l)
 
+  -- Its pointer is one of the card's.
+  pub chosen-pointer : Chosen → (1 ≤ s .pointer) × (s .pointer ≤ n)
+  chosen-pointer c =
+      rw (c .pointer)
+      (pointer-within n [] (counted (c .l)) (s .position - 1) (list-kept n counters list (c .l) (c .reads) .apart) (omega (arith, c .low, c .high)))
+
   -- The list reads, all being in order, and has no eligible entry.
   pub record NoneEligible : Type 0 where
     pub order : InOrder
@@ -193,10 +199,8 @@ module _ (list file : List ℕ) (n counters day operator : ℕ) where
   unfolding partOf
   part-is-record right =
       let c = accepted-chosen right in
-      let (low, high) = pointer-within n [] (counted (c .l)) (s .position - 1) (list-kept n counters list (c .l) (c .reads) .apart) (omega (arith, c .low, c .high)) in
+      let (first, most) = chosen-pointer c in
       let sized : length file ≡ 29 * n = c .order .1 in
-      let first : 1 ≤ s .pointer = rw (c .pointer) low in
-      let most : s .pointer ≤ n = rw (c .pointer) high in
       let last : s .pointer ≤ length file / 29 = omega arith in
       let inside : 29 ≤ length (drop (29 * (s .pointer - 1)) file) = simp length-drop (omega arith) in
       rw (eq-eqb _ _ right) (refl, rw (le-leb _ _ first, le-leb _ _ last) (length-take-le 29 (drop (29 * (s .pointer - 1)) file) inside))

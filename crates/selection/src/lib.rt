@@ -35,7 +35,7 @@ impl Selected {
         priority: 0,
     };
 
-    fn refused(refusal: Refusal) -> Selected
+    pub fn refused(refusal: Refusal) -> Selected
         ensures { λ r. ⌜ r ≡ unselected refusal ⌝ }
     {
         Selected {
