@@ -15,6 +15,7 @@ import fields
 import lines
 import margins
 import model
+import passages
 import records
 import tallies
 
@@ -25,8 +26,8 @@ SEED = 1997
 
 # The numbers that document 01 and Q-7 let each operation answer. 0 is accepted. Where a number is missing, the layout
 # leaves no way to it: an Environment (121 bits at most) and a special event list (176) always fit, so they have no 2;
-# an Environment has no range, so it has no 4; 5 is of reading a list and 7 of writing; 8, 9 and 10 belong to one
-# operation each.
+# an Environment has no range, so it has no 4; 5 is of reading a list and 7 of writing; 9 and 10 belong to one operation
+# each, and 8 to selection, which a passage passes on. Its event and its list always fit.
 POSSIBLE = {
     "env.read": {0, 1, 3},
     "env.write": {0, 1, 3, 7},
@@ -43,6 +44,7 @@ POSSIBLE = {
     "select": {0, 1, 2, 4, 5, 6, 8, 11},
     "priority": {0, 1, 2, 4, 5, 6, 11},
     "load": {0, 1, 2, 3, 4, 5, 6, 9, 11},
+    "passage": {0, 1, 2, 4, 5, 6, 8, 11},
     "apply": {0, 1, 11},
     "find": {0, 1, 10},
     "join": {0, 1},
@@ -59,7 +61,7 @@ WALKS = {
     "holder": ("holder.read", "holder.write", "lab.holder"),
     "event": ("event.read", "event.write", "lab.event", "load's journal", "load's records"),
     "special": ("special.read", "special.write", "lab.special", "load"),
-    "list": ("list.read", "list.write", "lab.list", "select", "priority", "load"),
+    "list": ("list.read", "list.write", "lab.list", "select", "priority", "load", "passage"),
     "contract 66": ("contract.read", "contract.write", "lab.contract", "load"),
     "contract 80": ("contract.read", "contract.write", "lab.contract", "load"),
     "new list": ("load",),
@@ -123,11 +125,13 @@ PARAMETERS = {"special": 1, "list": 2, "contract": 1}     # how many numbers fol
 TYPE_REFUSED = "3 0 0"
 ALL_ONES = "FF" * 32                                      # all codes marked
 P2_ENTRIES = "6 0 0 16 6 1 6 0 2 16 9 2 6 0 2 5 15 3" + " 0" * 30
-C_AT = {"list.read": 2, "list.write": 2, "lab.list": 2, "select": 3, "priority": 2}     # which word is C, behind N
+C_AT = {"list.read": 2, "list.write": 2, "lab.list": 2, "select": 3, "priority": 2, "passage": 4}     # C is behind N
 UP_TO_TALLY = 3 + 49                                      # words of an answer of list.read
 ANY_TALLIES = [0, 0, 0, 0], [1, 0, 0, 0], [0, 128, 0, 1], [4294967295] * 4
 TALLY_REFUSED = "6 0 0 "
 TURNED_OVER = str.maketrans("0123456789ABCDEF", "FEDCBA9876543210")
+PASSED = [4, 5, 6, 7, 15, 15, 15, 15, 8, 9, 10, 11]      # Q-1: what becomes of the priorities 0 to 11
+PASSAGE_BITMAP = (1 << 25) + (1 << 4) + (1 << 2)
 
 
 def ask(request):
@@ -232,6 +236,28 @@ def check_second_samples():
     assert ask(f"lab.holder {surname}") == "0 0 0 1 1 1 2" + " 0" * 107 + f" {'0' * 232}"
 
 
+def check_passage_samples():
+    """Q-1 by hand. P3's list, of which operator 2 can use the fourth entry: its priority goes from 6 to 15. P2's list
+    has no type that is known. Then a single contract goes from 0 to 4 and to 15; loading goes by its two events."""
+    zeros, ones, old = "0" * 58, "F" * 58, "0123456789" * 5 + "ABCDEF01"
+    p3, p3_after = "4C020C1C42122C40BE3C484C4" + "0" * 33, "4C020C1C42122C40BE3C485E4" + "0" * 33
+    event = "00000001100100" "01001011000" "0010000000000000000000010100" "00110001" "00000111" "00100"
+    assert cards.record(event) == "01912C100000A18839" + "0" * 40
+    given = f"{zeros * 4} {ones}{old}{zeros} 4 4 100 600 2 49 7"
+    assert ask(f"passage {p3} {given}") == f"0 0 0 4 4 6 {p3_after} {cards.record(event)}{ones}{old}"
+    for lent in (p3_after, cards.P2_LIST):
+        assert ask(f"passage {lent} {given}") == f"8 0 0 0 0 0 {lent} {ones}{old}{zeros}"
+    unused, begun, used_up = (digits + "0" * 51 for digits in ("1C08401", "1C08481", "1C085E1"))
+    first, second = "01912C100000A18FF840" + "0" * 38, "01916810" "0000A0000040" + "0" * 38
+    assert ask(f"passage {unused} {zeros} {old}{ones} 1 0 100 600 0 49 255") == f"0 0 0 1 1 0 {begun} {first}{old}"
+    assert ask(f"passage {begun} {zeros} {first}{old} 1 0 100 720 0 0 0") == f"0 0 0 1 1 4 {used_up} {second}{first}"
+    for minute, hours, code, answer in ((720, 1, 0, "9 0 0 0"), (720, 1, 49, "0 0 0 1"), (720, 3, 49, "9 0 0 0"),
+                                        (720, 1, 255, "0 0 0 1"), (779, 1, 0, "9 0 0 0"), (780, 1, 0, "0 0 0 1")):
+        loading = cards.load_line(contract_list=used_up, file=zeros, journal=second + first, positions=1, counters=0,
+                                  codes=cards.marking(code), minute=minute, hours=hours)
+        assert ask(loading).startswith(answer + " ")
+
+
 def loaded_pointers(listed, erasable, needs_counter):
     """The pointer taken and the pointers of the new list."""
     *refusal, pointer, new_list, _ = ask(cards.p4_line(listed, erasable, needs_counter)).split(" ")
@@ -253,6 +279,11 @@ def drawn_requests():
     made = [request for maker in (cards, records, fields, margins, codes, tallies)
             for request in maker.requests(random)]
     return list(dict.fromkeys(made))
+
+
+def passage_requests():
+    """In order, each once. They come after all others and have their own chance, so that the older ones stay."""
+    return list(dict.fromkeys(passages.requests(Random(SEED))))
 
 
 def check_round_trips(requests):
@@ -499,6 +530,73 @@ def places(sides):
     return found | {0}
 
 
+def check_passages(requests):
+    """Q-1, for each passage. It is refused as a selection with the same numbers is, or for its own limits: 1 before 11,
+    11 before the others; list and journal are then as they were. Else it answers what that selection answers. Each
+    position is met with each priority."""
+    met = set()
+    for request in requests:
+        name, *words = request.split(" ")
+        if name == "passage":
+            answer, selected = ask(request).split(" "), ask(beginning(words)).split(" ")
+            assert answer[:3] == passage_refusal(words, selected), request
+            if answer[0] == "0":
+                assert answer[3:6] == selected[3:6], request
+                position, pointer, priority = map(int, answer[3:6])
+                check_list_after(words, position, answer[6])
+                check_journal_after(words, pointer, answer[7])
+                met.add((position, priority))
+            else:
+                assert answer[3:] == ["0", "0", "0", words[0], words[2]], request
+    assert met == {(position, priority) for position in range(1, 9) for priority in range(12)}, met
+
+
+def beginning(words):
+    """The selection with which a passage begins."""
+    contract_list, file, _, positions, counters, day, _, operator, _, _ = words
+    return " ".join(["select", contract_list, file, positions, counters, day, operator])
+
+
+def passage_refusal(words, selected):
+    """The passage's three numbers, by those of its selection."""
+    length = len(words[2]) if words[2] != "-" else 0
+    minute, code, provider = int(words[6]), int(words[8]), int(words[9])
+    if selected[0] == "1" or length % 58 != 0:
+        return ["1", "0", "0"]
+    if selected[0] == "11" or not 58 <= length <= 15 * 58 or minute > 1439 or code > 255 or provider > 255:
+        return ["11", "0", "0"]
+    return selected[:3]
+
+
+def check_list_after(words, position, after):
+    """It reads as the list before, but for one priority and the tally, which is a fresh count. Change of priority gives
+    the same. "01's gate write can always make this change": no bit falls."""
+    before, parameters = words[0], f"{words[3]} {words[4]}"
+    old, new = (ask(f"list.read {lent} {parameters}").split(" ")[3:] for lent in (before, after))
+    at = 6 * position - 1
+    code = PASSED[int(old[at])]
+    assert new[:-4] == [*old[:at], str(code), *old[at + 1:-4]], words
+    assert counted(new, int(words[4])) == [int(number) for number in new[-4:]], words
+    assert ask(f"priority {before} {parameters} {position} {code}") == f"0 0 0 {after}", words
+    assert int(before, 16) | int(after, 16) == int(after, 16), words
+    *refusal, write = ask(f"find {before} {after} {cards.ZEROS}").split(" ")
+    assert refusal == ["0", "0", "0"] and ask(f"apply {before} {write}") == f"0 0 0 {after}", words
+
+
+def check_journal_after(words, pointer, after):
+    """First the event, which has nothing but what it was given; then the old records without the last. With other old
+    records the event is the same."""
+    journal, day, minute, code, provider = (words[index] for index in (2, 5, 6, 8, 9))
+    event, *others = split(after)
+    elements = {2: code, 4: provider, 25: pointer}
+    value = [day, minute, PASSAGE_BITMAP, *[elements.get(element, 0) for element in range(27) if element != 17]]
+    assert ask(f"event.read {event}") == " ".join(map(str, ["0 0 0", *value, *[0] * 6, cards.ZEROS])), words
+    assert others == split(journal)[:-1], words
+    turned = [*words[:2], journal.translate(TURNED_OVER), *words[3:]]
+    *_, other_after = ask(" ".join(["passage", *turned])).split(" ")
+    assert split(other_after) == [event, *[record.translate(TURNED_OVER) for record in others]], words
+
+
 def plain_event(record):
     """The event without its margin."""
     *value, margin = ask(f"event.read {record}").split(" ")[3:]
@@ -572,11 +670,13 @@ def walk_at_fault(request, answer):
 
 
 def readings(name, words):
-    """What selection, change of priority or loading reads, in order."""
+    """What selection, change of priority, a passage or loading reads, in order."""
     if name == "select":
         return [("list", name, f"list.read {words[0]} {words[2]} {words[3]}")]
     if name == "priority":
         return [("list", name, f"list.read {words[0]} {words[1]} {words[2]}")]
+    if name == "passage":
+        return [("list", name, f"list.read {words[0]} {words[3]} {words[4]}")]
     contract_list, _, special_list, journal, special_events, new, _, positions, counters, specials, *_ = words
     kind = words[14]
     return [("list", name, f"list.read {contract_list} {positions} {counters}"),
@@ -611,18 +711,22 @@ def main(stdin=DEFAULT_STDIN, stdout=DEFAULT_STDOUT):
     check_code_samples()
     check_tally_samples()
     check_second_samples()
-    drawn = drawn_requests()
-    check_round_trips(drawn)
-    check_margins(drawn)
-    check_cards(drawn)
-    check_codes(drawn)
-    check_counters(drawn)
-    check_tallies(drawn)
-    check_changed_lists(drawn)
-    check_places(drawn)
+    check_passage_samples()
+    drawn, passed = drawn_requests(), passage_requests()
+    both = drawn + passed
+    check_round_trips(both)
+    check_margins(both)
+    check_cards(both)
+    check_codes(both)
+    check_counters(both)
+    check_tallies(both)
+    check_changed_lists(both)
+    check_places(both)
+    check_passages(both)
     second = list(approval.requests(drawn))
     check_counters(second)
     requests = [line.encode() for line in drawn] + list(lines.requests()) + [line.encode() for line in second]
+    requests += [line.encode() for line in (*passed, *dict.fromkeys(passages.bad_lines()))]
     check_second_reader(requests)
     answers = [model.answer(request) for request in requests]
     pairs = count_pairs(requests, answers)

@@ -1,5 +1,5 @@
-"""A plain model of the operations, written from document 01, from requests Q-2, Q-3, Q-6, Q-7 and Q-8 of document 02,
-and from nothing else.
+"""A plain model of the operations, written from document 01, from requests Q-1, Q-2, Q-3, Q-6, Q-7 and Q-8 of document
+02, and from nothing else.
 
 `answer(line)` takes one request line of REPLAY.md (bytes, without its line feed) and gives the answer line.
 
@@ -278,6 +278,7 @@ def walk_profiles(walk, present):
 
 EVENT = [8, 24, 8, 8, 8, 8, 24, 16, 16, 8, 16, 16, 8, 16, 16, 8, 5, 240, 16, 8, 16, 16, 16, 16, 16, 5, 16]
 EVENT_CODE = 2
+EVENT_PROVIDER = 4
 EVENT_UNBOXED = 17               # can never fit, and has no number in the value
 EVENT_CONTRACT = 25
 
@@ -688,6 +689,11 @@ def lab_contract(record, kind):
 def select(contract_list, file, positions, counters, day, operator):
     require_lengths((contract_list, RECORD), (file, RECORD * positions))
     require(card_limits(positions, counters), day <= 16383, operator <= 255)
+    return chosen(contract_list, file, positions, counters, day, operator)
+
+
+def chosen(contract_list, file, positions, counters, day, operator):
+    """What selection answers where the lengths are right and the numbers within their limits."""
     entries = contract_entries(read_contract_list(contract_list, positions, counters))
     best = None
     for position, entry in enumerate(entries, 1):
@@ -733,9 +739,13 @@ def valid_on(day, contract):
 
 
 def change_priority(contract_list, positions, counters, position, code):
-    """01: "only those four bits change": the list is written again with all its other numbers as they were read."""
     require_lengths((contract_list, RECORD))
     require(card_limits(positions, counters), position >= 1, usable_code(code))
+    return with_priority(contract_list, positions, counters, position, code)
+
+
+def with_priority(contract_list, positions, counters, position, code):
+    """01: "only those four bits change": the list is written again with all its other numbers as they were read."""
     entries = contract_entries(read_contract_list(contract_list, positions, counters))
     require(position <= len(entries))
     entries[position - 1] = entries[position - 1]._replace(priority=code)
@@ -834,6 +844,42 @@ def place_among(pointers, entries, blocked):
                 if entry.priority == ERASABLE and entry.pointer not in blocked and entry.pointer in pointers]
     places = free + erasable
     return places[0] if places else None
+
+
+# ---------------------------------------------------------------- A passage
+
+def passage(contract_list, file, journal, positions, counters, day, minute, operator, code, provider):
+    """Q-1: "one call for a passage". List and contracts are refused "as in selection, before anything is written"; an
+    empty journal is 11. The provider is the event's: it need not be the gate's operator."""
+    require_lengths((contract_list, RECORD), (file, RECORD * positions))
+    require_records(journal)
+    require(card_limits(positions, counters), 1 <= len(split(journal)) <= MOST_RECORDS, day <= 16383, minute <= 1439,
+            operator <= 255, code <= 255, provider <= 255)
+    position, pointer, priority, _ = chosen(contract_list, file, positions, counters, day, operator)
+    [new_list] = with_priority(contract_list, positions, counters, position, priority_after(priority))
+    event = passage_event(day, minute, code, provider, pointer)
+    return [position, pointer, priority, new_list, put_first(event, journal)]
+
+
+def priority_after(priority):
+    """Q-1: "0 to 3 go up by four, 4 to 7 become 15, 8 to 11 stay". No other is eligible."""
+    if priority <= 3:
+        return priority + 4
+    return ERASABLE if priority <= 7 else priority
+
+
+def passage_event(day, minute, code, provider, pointer):
+    """Q-1: "an event with the day, minute, event code, provider and contract pointer"; it has nothing else."""
+    elements = {EVENT_CODE: code, EVENT_PROVIDER: provider, EVENT_CONTRACT: pointer}
+    bitmap = sum(1 << element for element in elements)
+    boxes = [elements.get(element, 0) for element in range(len(EVENT)) if element != EVENT_UNBOXED]
+    inner = [0] * (1 + len(EVENT_DATA))
+    return write_walk(RECORD, [day, minute, bitmap, *boxes, *inner, bytes(RECORD)], walk_event)
+
+
+def put_first(event, journal):
+    """Q-1: "the others move down one and the last falls off". They "are moved unread", whatever bytes they hold."""
+    return event + journal[:-RECORD]
 
 
 # ---------------------------------------------------------------- Gate writes
@@ -937,6 +983,10 @@ def nothing_loaded(contract_list, file, *rest):
     return [0, contract_list, file]
 
 
+def not_passed(contract_list, file, journal, *rest):
+    return [0, 0, 0, contract_list, journal]
+
+
 Operation = namedtuple("Operation", "words run refused")
 
 OPERATIONS = {
@@ -955,6 +1005,7 @@ OPERATIONS = {
     b"select": Operation([byte_string] * 2 + [NUMBER] * 4, select, no_part),
     b"priority": Operation([byte_string] + [NUMBER] * 4, change_priority, first),
     b"load": Operation([byte_string] * 7 + [NUMBER] * 9 + [FLAG, NUMBER, FLAG], load, nothing_loaded),
+    b"passage": Operation([byte_string] * 3 + [NUMBER] * 7, passage, not_passed),
     b"apply": Operation([byte_string] * 2, apply_writes, first),
     b"find": Operation([byte_string] * 3, find_write, third),
     b"join": Operation([byte_string] * 3, join_writes, third),

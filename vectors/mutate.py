@@ -135,6 +135,38 @@ CHANGE_PRIORITY = """    entries[position - 1] = entries[position - 1]._replace(
     return [write_contract_list(list_numbers(entries, counters), positions, counters)]
 """
 FREE = "free = [pointer for pointer in pointers if pointer not in listed]"
+PASSAGE_LENGTHS = """    require_lengths((contract_list, RECORD), (file, RECORD * positions))
+    require_records(journal)
+"""
+SIZE_LIMITS = "1 <= len(split(journal)) <= MOST_RECORDS"
+PASSAGE_LIMITS = f"""    require(card_limits(positions, counters), {SIZE_LIMITS}, day <= 16383, minute <= 1439,
+            operator <= 255, code <= 255, provider <= 255)
+"""
+NOT_EMPTY = "    require(journal)\n"
+REQUIRE_RECORDS = "    require_records(journal)\n"
+CHOSEN = """    position, pointer, priority, _ = chosen(contract_list, file, positions, counters, day, operator)
+"""
+PASSAGE_LIST = """    [new_list] = with_priority(contract_list, positions, counters, position, priority_after(priority))
+"""
+PASSAGE_EVENT = """    event = passage_event(day, minute, code, provider, pointer)
+"""
+PASSAGE_ANSWER = """    return [position, pointer, priority, new_list, put_first(event, journal)]
+"""
+UP_BY_FOUR = """    if priority <= 3:
+        return priority + 4
+"""
+TO_15 = """    return ERASABLE if priority <= 7 else priority
+"""
+ELEMENTS = """    elements = {EVENT_CODE: code, EVENT_PROVIDER: provider, EVENT_CONTRACT: pointer}
+"""
+EVENT_BITMAP = """    bitmap = sum(1 << element for element in elements)
+"""
+EVENT_NUMBERS = "[day, minute, bitmap, *boxes, *inner, bytes(RECORD)]"
+PUT_FIRST = """    return event + journal[:-RECORD]
+"""
+NOT_PASSED = """    return [0, 0, 0, contract_list, journal]
+"""
+PASSAGE_WORDS = "passage(contract_list, file, journal, positions, counters, day, minute, operator, code, provider)"
 
 # The calls that take C: their first checks, what comes next, and what walks over the list.
 CALLS = {
@@ -161,6 +193,7 @@ CALLS = {
             day <= 16383, minute <= 1439, hours <= 255, key <= 15, kind <= 255, usable_code(priority),
             network < (1 << 24 if has_network else 1))
 """, "", READ_LIST),
+    "passage": (PASSAGE_LENGTHS + PASSAGE_LIMITS, "", READ_LIST),
     "second reader": ("""    require_lengths((record, RECORD))
     require(card_limits(positions, counters))
 """, """    return with_tally(lab_numbers(lab.contract_list(positions), record), positions, counters)
@@ -238,6 +271,79 @@ def without_going_on(condition):
             f"""    used_up_entries = tally(entries, counters)
     if found is None and (needs_counter or not ({condition})):
         found = place_among(counter_pointers""")
+
+
+# What a passage takes beside the card: the highest number, and the bits that hold it.
+PASSAGE_NUMBERS = {"day": (16383, 14), "minute": (1439, 11), "operator": (255, 8), "code": (255, 8),
+                   "provider": (255, 8)}
+
+
+def faults_of_limits():
+    """In a passage. What is let through is cut down, so that its event can be made."""
+    for name, (most, width) in PASSAGE_NUMBERS.items():
+        limit, cut_down = f"{name} <= {most}", f"    {name} = min({name}, {most})\n"
+        unlimited, required = PASSAGE_LIMITS.replace(limit, "True"), f"    require({limit})\n"
+        for fault, wrong in (
+                ("may be one more", PASSAGE_LIMITS.replace(limit, f"{name} <= {most + 1}") + cut_down),
+                ("must be less", PASSAGE_LIMITS.replace(limit, f"{name} < {most}")),
+                ("must be at least 1", PASSAGE_LIMITS.replace(limit, f"1 <= {name} <= {most}")),
+                ("has no limit", unlimited + cut_down),
+                (f"counts with its low {width} bits", f"    {name} %= {1 << width}\n" + PASSAGE_LIMITS),
+                ("counts with its low 16 bits", f"    {name} %= 65536\n" + PASSAGE_LIMITS),
+                ("is limited after the list is read", unlimited + READ_LIST + required),
+                ("is limited after the contract is chosen", unlimited + CHOSEN + required)):
+            yield f"passage: {name} {fault}", PASSAGE_LIMITS, wrong
+        yield f"passage: {name} is limited before the lengths", PASSAGE_LENGTHS, required + PASSAGE_LENGTHS
+
+
+def journal_as(put_first, before=""):
+    """A passage that leaves another journal."""
+    return PUT_FIRST, f"{before}    return {put_first}\n"
+
+
+def element_at(**others):
+    """Code, provider or pointer are another element of the event, or none."""
+    at = {"code": "EVENT_CODE", "provider": "EVENT_PROVIDER", "pointer": "EVENT_CONTRACT", **others}
+    pairs = [f"{element}: {name}" for name, element in at.items() if element != "none"]
+    return ELEMENTS, "    elements = dict(sorted({" + ", ".join(pairs) + "}.items()))\n"
+
+
+def faults_of_elements():
+    """The event of a passage has each other element, too, as zero."""
+    for element in range(28):
+        if element not in (2, 4, 17, 25):
+            yield (f"passage: the event has element [{element}]", EVENT_BITMAP,
+                   f"    bitmap = sum(1 << element for element in (*elements, {element}))\n")
+
+
+def chosen_by(key):
+    """A passage with the eligible entry for which this is lowest."""
+    return (CHOSEN, READ_LIST + f"""    fitting = [(position, entry) for position, entry in enumerate(entries, 1)
+               if eligible(entry, part(file, entry.pointer), day, operator)]
+    if not fitting:
+        raise Refused(8)
+    position, entry = min(fitting, key=lambda pair: ({key.format(position="pair[0]", entry="pair[1]")}))
+    pointer, priority = entry.pointer, entry.priority
+""")
+
+
+def changed_to(entries, before=""):
+    """A passage that leaves these entries in the list."""
+    return (PASSAGE_LIST, READ_LIST + "    entry = entries[position - 1]\n" + before + f"""    entries = {entries}
+    new_list = write_contract_list(list_numbers(entries, counters), positions, counters)
+""")
+
+
+def written_though(text, condition, new_list="contract_list", new_journal="journal"):
+    """A passage that is refused here, but has written where this holds."""
+    indented = "".join(f"    {line}" for line in text.splitlines(keepends=True))
+    return (text, f"""    try:
+{indented}    except Refused as refused:
+        if {condition}:
+            refused.written = [0, 0, 0, {new_list}, {new_journal}]
+        raise
+""", "+ operation.refused(*lent)\n",
+            "+ (refused.written if hasattr(refused, 'written') else operation.refused(*lent))\n")
 
 
 # The second reader's tables, each with its own number of rows.
@@ -394,8 +500,8 @@ MUTATIONS = [
     require_lengths((contract_list, RECORD), (file, RECORD * positions))
 """),
     ("29 x N wraps at 2^32",
-     "(contract_list, RECORD), (file, RECORD * positions))",
-     "(contract_list, RECORD), (file, RECORD * positions % (1 << 32)))"),
+     "(file, RECORD * positions))\n    require(",
+     "(file, RECORD * positions % (1 << 32)))\n    require("),
     ("priority 12 is eligible",
      "LAST_USABLE, UNDEFINED, ERASABLE = 11, 13, 15",
      "LAST_USABLE, UNDEFINED, ERASABLE = 12, 13, 15"),
@@ -575,8 +681,8 @@ MUTATIONS = [
         walk.rank -= 0 if index < count else 4
 """),
     ("selection drops the field",
-     "operator <= 255)\n" + READ_LIST,
-     "operator <= 255)\n" + nameless(READ_LIST.strip())),
+     READ_LIST + "    best = None\n",
+     nameless(READ_LIST.strip()) + "    best = None\n"),
     ("change of priority drops the field",
      READ_LIST + "    require(position <= len(entries))\n",
      nameless(READ_LIST.strip()) + "    require(position <= len(entries))\n"),
@@ -1473,6 +1579,397 @@ MUTATIONS = [
 """),
     ("a number of the tally above 255 is a bad line",
      "[NUMBER] * 2 + [NUMBER] * 53", "[NUMBER] * 2 + [NUMBER] * 49 + [LETTER] * 4"),
+
+    # Q-1: the priority
+    ("passage: 0 to 3 go up by eight", UP_BY_FOUR, UP_BY_FOUR.replace("+ 4", "+ 8")),
+    ("passage: 0 to 3 go up by one", UP_BY_FOUR, UP_BY_FOUR.replace("+ 4", "+ 1")),
+    ("passage: 0 to 3 go up by five", UP_BY_FOUR, UP_BY_FOUR.replace("+ 4", "+ 5")),
+    ("passage: 0 to 3 become 4", UP_BY_FOUR, UP_BY_FOUR.replace("priority + 4", "4")),
+    ("passage: 0 to 3 become 7", UP_BY_FOUR, UP_BY_FOUR.replace("priority + 4", "7")),
+    ("passage: 0 to 3 become 15", UP_BY_FOUR, UP_BY_FOUR.replace("priority + 4", "15")),
+    ("passage: 0 to 3 stay", UP_BY_FOUR, UP_BY_FOUR.replace("priority + 4", "priority")),
+    ("passage: 0 becomes 15", UP_BY_FOUR, UP_BY_FOUR.replace("if ", "if 1 <= ")),
+    ("passage: 3 becomes 15", UP_BY_FOUR, UP_BY_FOUR.replace("<= 3", "<= 2")),
+    ("passage: 4 becomes 8", UP_BY_FOUR, UP_BY_FOUR.replace("<= 3", "<= 4")),
+    ("passage: 4 to 7 go up by four", UP_BY_FOUR, UP_BY_FOUR.replace("<= 3", "<= 7")),
+    ("passage: 4 to 7 go up by eight", TO_15, TO_15.replace("ERASABLE", "priority + 8")),
+    ("passage: 4 to 7 become 14", TO_15, TO_15.replace("ERASABLE", "14")),
+    ("passage: 4 to 7 become 12", TO_15, TO_15.replace("ERASABLE", "12")),
+    ("passage: 4 to 7 become 11", TO_15, TO_15.replace("ERASABLE", "11")),
+    ("passage: 4 to 7 stay", TO_15, TO_15.replace("ERASABLE", "priority")),
+    ("passage: 7 stays", TO_15, TO_15.replace("<= 7", "<= 6")),
+    ("passage: 8 becomes 15", TO_15, TO_15.replace("<= 7", "<= 8")),
+    ("passage: 8 to 11 become 15", TO_15, TO_15.replace("<= 7", "<= 11")),
+    ("passage: 8 to 11 become 12", TO_15, TO_15.replace("else priority", "else 12")),
+    ("passage: 8 to 11 go down by four", TO_15, TO_15.replace("else priority", "else priority - 4")),
+    ("passage: 11 becomes 15", TO_15, TO_15.replace("priority <= 7", "priority in (4, 5, 6, 7, 11)")),
+    ("passage: plain positions are not used up",
+     PASSAGE_LIST, PASSAGE_LIST.replace("priority_after(priority)",
+                                        "priority_after(priority) if pointer <= counters else min(priority + 4, 11)")),
+    ("passage: counter positions are not used up",
+     PASSAGE_LIST, PASSAGE_LIST.replace("priority_after(priority)",
+                                        "priority_after(priority) if pointer > counters else min(priority + 4, 11)")),
+
+    # Q-1: the list
+    ("passage: the list stays", PASSAGE_LIST, "    new_list = contract_list\n"),
+    ("passage: the entry at the pointer changes", PASSAGE_LIST,
+     READ_LIST + PASSAGE_LIST.replace("counters, position,", "counters, min(pointer, len(entries)),")),
+    ("passage: the first entry changes", PASSAGE_LIST, PASSAGE_LIST.replace("counters, position,", "counters, 1,")),
+    ("passage: the entry before changes",
+     PASSAGE_LIST, PASSAGE_LIST.replace("counters, position,", "counters, max(position - 1, 1),")),
+    ("passage: the last entry changes",
+     *changed_to("entries[:-1] + [entries[-1]._replace(priority=priority_after(priority))]")),
+    ("passage: all entries of this priority change",
+     *changed_to("[one._replace(priority=priority_after(priority)) if one.priority == priority else one"
+                 " for one in entries]")),
+    ("passage: all eligible entries change",
+     *changed_to("[one._replace(priority=priority_after(one.priority)) if eligible(one, part(file, one.pointer), day,"
+                 " operator) else one for one in entries]")),
+    ("passage: all entries of priority 11 or less change",
+     *changed_to("[one._replace(priority=priority_after(one.priority)) if one.priority <= LAST_USABLE else one"
+                 " for one in entries]")),
+    ("passage: a used-up entry leaves the list",
+     *changed_to("[one._replace(priority=priority_after(priority)) if one == entry else one for one in entries"
+                 " if one != entry or not 4 <= priority <= 7]")),
+    ("passage: the entry moves to the end",
+     *changed_to("[one for one in entries if one != entry] + [entry._replace(priority=priority_after(priority))]")),
+    ("passage: a used-up entry moves to the end",
+     *changed_to("([one for one in entries if one != entry] + [new] if 4 <= priority <= 7 else"
+                 " [new if one == entry else one for one in entries])",
+                 "    new = entry._replace(priority=priority_after(priority))\n")),
+    ("passage: the entry loses its network",
+     *changed_to("[entry._replace(priority=priority_after(priority), bitmap=6, network=0) if one == entry else one"
+                 " for one in entries]")),
+    ("passage: the entry's key becomes the operator",
+     *changed_to("[entry._replace(priority=priority_after(priority), key=operator % 16) if one == entry else one"
+                 " for one in entries]")),
+
+    # Q-1: the event
+    ("passage: the operator is the provider", PASSAGE_EVENT, PASSAGE_EVENT.replace("provider", "operator")),
+    ("passage: the contract's provider is the event's", PASSAGE_EVENT,
+     READ_LIST + """    provider = read_contract(part(file, pointer), entries[position - 1].kind)["provider"][0]
+""" + PASSAGE_EVENT),
+    ("passage: the operator is the code", PASSAGE_EVENT, PASSAGE_EVENT.replace("code", "operator")),
+    ("passage: code and provider are exchanged", *element_at(code="EVENT_PROVIDER", provider="EVENT_CODE")),
+    ("passage: the provider is code and provider",
+     PASSAGE_EVENT, PASSAGE_EVENT.replace("code, provider", "provider, provider")),
+    ("passage: the code is code and provider",
+     PASSAGE_EVENT, PASSAGE_EVENT.replace("code, provider", "code, code")),
+    ("passage: the event names the position", PASSAGE_EVENT, PASSAGE_EVENT.replace("pointer", "position")),
+    ("passage: the event names the priority", PASSAGE_EVENT, PASSAGE_EVENT.replace("pointer", "priority")),
+    ("passage: the event counts pointers from 0", PASSAGE_EVENT, PASSAGE_EVENT.replace("pointer", "pointer - 1")),
+    ("passage: the event names nothing", PASSAGE_EVENT, PASSAGE_EVENT.replace("pointer", "0")),
+    ("passage: the event names a used-up contract no more",
+     PASSAGE_EVENT, PASSAGE_EVENT.replace("pointer", "0 if 4 <= priority <= 7 else pointer")),
+    ("passage: the event has no code", *element_at(code="none")),
+    ("passage: the event has no provider", *element_at(provider="none")),
+    ("passage: the event has no pointer", *element_at(pointer="none")),
+    ("passage: the code is element [3]", *element_at(code="3")),
+    ("passage: the code is element [1]", *element_at(code="1")),
+    ("passage: the code is element [0]", *element_at(code="0")),
+    ("passage: the provider is element [3]", *element_at(provider="3")),
+    ("passage: the provider is element [5]", *element_at(provider="5")),
+    ("passage: the provider is the network", *element_at(provider="1")),
+    ("passage: the pointer is element [26]", *element_at(pointer="26")),
+    ("passage: the pointer is element [24]", *element_at(pointer="24")),
+    ("passage: the pointer is element [16], of five bits as well", *element_at(pointer="16")),
+    ("passage: a code of zero is absent",
+     ELEMENTS, ELEMENTS + "    if code == 0:\n        del elements[EVENT_CODE]\n"),
+    ("passage: a provider of zero is absent",
+     ELEMENTS, ELEMENTS + "    if provider == 0:\n        del elements[EVENT_PROVIDER]\n"),
+    *faults_of_elements(),
+    ("passage: the event's first bitmap bit is element [0]",
+     f"    return write_walk(RECORD, {EVENT_NUMBERS}, walk_event)\n",
+     f"""    bits = to_bits(write_walk(RECORD, {EVENT_NUMBERS}, walk_event))
+    return to_bytes(bits[:25] + bits[25:53][::-1] + bits[53:])
+"""),
+    ("passage: day and minute are exchanged",
+     EVENT_NUMBERS, EVENT_NUMBERS.replace("day, minute", "minute, day % 1440")),
+    ("passage: the event is a day late", EVENT_NUMBERS, EVENT_NUMBERS.replace("[day", "[min(day + 1, 16383)")),
+    ("passage: the event is a day early", EVENT_NUMBERS, EVENT_NUMBERS.replace("[day", "[max(day - 1, 0)")),
+    ("passage: the event has day 0", EVENT_NUMBERS, EVENT_NUMBERS.replace("[day", "[0")),
+    ("passage: the event is a minute late", EVENT_NUMBERS, EVENT_NUMBERS.replace("minute", "min(minute + 1, 1439)")),
+    ("passage: the event is a minute early", EVENT_NUMBERS, EVENT_NUMBERS.replace("minute", "max(minute - 1, 0)")),
+    ("passage: the event has minute 0", EVENT_NUMBERS, EVENT_NUMBERS.replace("minute", "0")),
+    ("passage: the event has the whole hour", EVENT_NUMBERS, EVENT_NUMBERS.replace("minute", "minute // 60 * 60")),
+    ("passage: the event has the minute of its hour", EVENT_NUMBERS, EVENT_NUMBERS.replace("minute", "minute % 60")),
+    *[(f"passage: the highest bit of the {name} is lost",
+       ELEMENTS, f"    {name} %= {1 << width - 1}\n" + ELEMENTS)
+      for name, width in (("day", 14), ("minute", 11), ("code", 8), ("provider", 8), ("pointer", 4))],
+    *[(f"passage: the lowest bit of the {name} is lost", ELEMENTS, f"    {name} -= {name} % 2\n" + ELEMENTS)
+      for name in ("day", "minute", "code", "provider", "pointer")],
+    ("passage: the event has a margin of a one",
+     EVENT_NUMBERS, EVENT_NUMBERS.replace("bytes(RECORD)", 'bytes(RECORD - 1) + b"\\1"')),
+
+    # Q-1: the journal
+    ("passage: the journal stays", *journal_as("journal")),
+    ("passage: the event stands last, the first falls off", *journal_as("journal[RECORD:] + event")),
+    ("passage: the event stands in place of the first", *journal_as("event + journal[RECORD:]")),
+    ("passage: the event stands in place of the last", *journal_as("journal[:-RECORD] + event")),
+    ("passage: the event stands behind the first",
+     *journal_as("(journal[:RECORD] + event + journal[RECORD:])[:len(journal)] if len(journal) > RECORD else event")),
+    ("passage: nothing falls off", *journal_as("event + journal")),
+    ("passage: nothing falls off of less than 15 records",
+     *journal_as("event + journal if len(journal) < RECORD * MOST_RECORDS else event + journal[:-RECORD]")),
+    ("passage: the last stays, the one before it falls off",
+     *journal_as("event + journal[:-2 * RECORD] + journal[-RECORD:] if len(journal) > RECORD else event")),
+    ("passage: two fall off", *journal_as("(event + journal[:-2 * RECORD]).ljust(len(journal), b'\\0')")),
+    ("passage: the others move down two", *journal_as("(event + bytes(RECORD) + journal)[:len(journal)]")),
+    ("passage: the others are turned round",
+     *journal_as('event + b"".join(reversed(split(journal[:-RECORD])))')),
+    ("passage: the others are forgotten", *journal_as("event.ljust(len(journal), b'\\0')")),
+    ("passage: only the first moves down",
+     *journal_as("(event + journal[:RECORD] + journal[2 * RECORD:])[:len(journal)]")),
+    ("passage: each is a copy of the one before it",
+     *journal_as("(event + journal[:RECORD] * MOST_RECORDS)[:len(journal)]")),
+    ("passage: each is a copy of the event", *journal_as("event * len(split(journal))")),
+    ("passage: the others move down a byte less", *journal_as("event + journal[1:len(journal) - RECORD + 1]")),
+    ("passage: the others move down a byte more", *journal_as('(event + b"\\0" + journal)[:len(journal)]')),
+    ("passage: of the last one the last byte stays",
+     *journal_as("(event + journal)[:len(journal) - 1] + journal[-1:]")),
+    ("passage: the old first shows through the event", *journal_as("either(event, journal) + journal[:-RECORD]")),
+    ("passage: behind the event the old first stays",
+     *journal_as("event[:10] + journal[10:RECORD] + journal[:-RECORD]")),
+    ("passage: a record of zeros falls off first",
+     *journal_as('event + b"".join(records)', """    records = split(journal)
+    records.remove(bytes(RECORD) if bytes(RECORD) in records else records[-1])
+""")),
+    ("passage: the oldest falls off",
+     *journal_as('event + b"".join(records)', """    records = split(journal)
+    records.remove(min(reversed(records), key=lambda record: to_bits(record)[:25]))
+""")),
+    ("passage: the latest stands first", *journal_as(
+        'b"".join(sorted([event] + split(journal)[:-1], key=lambda record: to_bits(record)[:25], reverse=True))')),
+    ("passage: the old records are read", PASSAGE_EVENT, PASSAGE_EVENT + "    read_events(journal)\n"),
+    ("passage: the old records are read before the list", CHOSEN, "    read_events(journal)\n" + CHOSEN),
+    ("passage: the old records that stay are read",
+     PASSAGE_EVENT, PASSAGE_EVENT + "    read_events(journal[:-RECORD])\n"),
+    ("passage: the record that falls off is read",
+     PASSAGE_EVENT, PASSAGE_EVENT + "    read_events(journal[-RECORD:])\n"),
+    ("passage: an old record that does not read is zeros", *journal_as(
+        'event + b"".join(map(readable, split(journal)[:-1]))', """    def readable(record):
+        try:
+            read_walk(record, walk_event)
+        except Refused:
+            return bytes(RECORD)
+        return record
+""")),
+    ("passage: the old records lose their margins", *journal_as(
+        'event + b"".join(map(plain, split(journal)[:-1]))', """    def plain(record):
+        try:
+            *numbers, _ = numbers_of(read_walk(record, walk_event))
+        except Refused:
+            return record
+        return write_walk(RECORD, numbers + [bytes(RECORD)], walk_event)
+""")),
+
+    # Q-1: the contract
+    ("passage: the first eligible entry is chosen", *chosen_by("{position}")),
+    ("passage: the last among equals is chosen", *chosen_by("{entry}.priority, -{position}")),
+    ("passage: the highest priority is chosen", *chosen_by("-{entry}.priority, {position}")),
+    ("passage: the lowest pointer among equals is chosen", *chosen_by("{entry}.priority, {entry}.pointer")),
+    ("passage: a contract that is begun is chosen first",
+     *chosen_by("not 4 <= {entry}.priority <= 7, {entry}.priority, {position}")),
+    ("passage: a contract that stays is chosen first",
+     *chosen_by("{entry}.priority <= 7, {entry}.priority, {position}")),
+    ("passage: a counter position is chosen first",
+     *chosen_by("{entry}.pointer > counters, {entry}.priority, {position}")),
+    ("passage: an entry of the operator's own is chosen first",
+     *chosen_by("{entry}.key == 0, {entry}.priority, {position}")),
+    ("passage: the provider is the gate's operator", CHOSEN, CHOSEN.replace("operator", "provider")),
+    ("passage: the code is the gate's operator", CHOSEN, CHOSEN.replace("operator", "code")),
+    ("passage: the gate's operator is 0", CHOSEN, CHOSEN.replace("operator", "0")),
+    ("passage: the contract is chosen for the minute", CHOSEN, CHOSEN.replace("day", "minute")),
+    ("passage: the contract is chosen for day 0", CHOSEN, CHOSEN.replace("day", "0")),
+    ("passage: the contract is chosen for the next day", CHOSEN, CHOSEN.replace("day", "day + 1")),
+    ("passage: the contract is chosen for the day before", CHOSEN, CHOSEN.replace("day", "max(day - 1, 0)")),
+    ("passage: an entry of priority 12 can be chosen", CHOSEN, READ_LIST + """    try:
+    """ + CHOSEN + """    except Refused:
+        position = next((number for number, entry in enumerate(entries, 1) if entry.priority == 12), 0)
+        if position == 0:
+            raise
+        pointer, priority = entries[position - 1].pointer, 12
+"""),
+    ("passage: without a contract the event names none", CHOSEN, """    try:
+    """ + CHOSEN + """    except Refused as refused:
+        if refused.number != 8:
+            raise
+        event = passage_event(day, minute, code, provider, 0)
+        return [0, 0, 0, contract_list, put_first(event, journal)]
+"""),
+
+    # Q-1: the answer
+    ("passage: the answer has the priority after",
+     PASSAGE_ANSWER, PASSAGE_ANSWER.replace("priority,", "priority_after(priority),")),
+    ("passage: position and pointer are exchanged",
+     PASSAGE_ANSWER, PASSAGE_ANSWER.replace("position, pointer", "pointer, position")),
+    ("passage: the answer has the position twice",
+     PASSAGE_ANSWER, PASSAGE_ANSWER.replace("position, pointer", "position, position")),
+    ("passage: the answer has the pointer twice",
+     PASSAGE_ANSWER, PASSAGE_ANSWER.replace("position, pointer", "pointer, pointer")),
+    ("passage: the answer counts positions from 0",
+     PASSAGE_ANSWER, PASSAGE_ANSWER.replace("[position", "[position - 1")),
+    ("passage: the priority stands before the pointer",
+     PASSAGE_ANSWER, PASSAGE_ANSWER.replace("pointer, priority", "priority, pointer")),
+    ("passage: the answer has the contract's key",
+     PASSAGE_ANSWER, READ_LIST + PASSAGE_ANSWER.replace("priority,", "entries[position - 1].key,")),
+    ("passage: the journal stands before the list",
+     PASSAGE_ANSWER, "    return [position, pointer, priority, put_first(event, journal), new_list]\n"),
+    ("passage: a refused one gives no list", NOT_PASSED, NOT_PASSED.replace("contract_list", 'b""')),
+    ("passage: a refused one gives no journal", NOT_PASSED, NOT_PASSED.replace("journal", 'b""')),
+    ("passage: a refused one gives neither", NOT_PASSED, "    return [0, 0, 0]\n"),
+    ("passage: a refused one gives only its three numbers", NOT_PASSED, "    return []\n"),
+    ("passage: a refused one clears the list",
+     NOT_PASSED, NOT_PASSED.replace("contract_list", "bytes(len(contract_list))")),
+    ("passage: a refused one clears the journal", NOT_PASSED, NOT_PASSED.replace("journal", "bytes(len(journal))")),
+
+    # Q-1: written before it is refused
+    ("passage: the journal moves though no contract is eligible",
+     *written_though(CHOSEN, "refused.number == 8",
+                     new_journal="put_first(passage_event(day, minute, code, provider, 0), journal)")),
+    ("passage: the journal moves though the list is refused",
+     *written_though(CHOSEN, "refused.number != 8", new_journal="put_first(bytes(RECORD), journal)")),
+    ("passage: the journal moves before the limits",
+     *written_though(PASSAGE_LIMITS, "journal", new_journal="put_first(bytes(RECORD), journal)")),
+    ("passage: the journal moves before the provider is looked at",
+     *written_though(PASSAGE_LIMITS, "journal and code <= 255 < provider",
+                     new_journal="put_first(bytes(RECORD), journal)")),
+    ("passage: the list changes before the code is looked at",
+     *written_though(PASSAGE_LIMITS, "code > 255 and card_limits(positions, counters)",
+                     new_list="written_list(contract_list, file, positions, counters, day, operator)"),
+     "def priority_after(priority):\n", """def written_list(contract_list, file, positions, counters, day, operator):
+    try:
+        position, _, priority, _ = chosen(contract_list, file, positions, counters, day, operator)
+        return with_priority(contract_list, positions, counters, position, priority_after(priority))[0]
+    except Refused:
+        return contract_list
+
+
+def priority_after(priority):
+"""),
+    ("passage: an event is written though the journal is empty",
+     *written_though(PASSAGE_LIMITS, "journal == b''", new_journal="bytes(RECORD)")),
+
+    # Q-1: the limits
+    *faults_of_limits(),
+    ("passage: a minute need only fit its eleven bits",
+     PASSAGE_LIMITS, PASSAGE_LIMITS.replace("minute <= 1439", "minute <= 2047") + "    minute = min(minute, 1439)\n"),
+    ("passage: a minute outside its range is 4",
+     PASSAGE_LIMITS, PASSAGE_LIMITS.replace("minute <= 1439", "minute <= 2047")),
+    ("passage: a number too wide for the event is 7", PASSAGE_LIMITS, PASSAGE_LIMITS.replace(
+        "day <= 16383, minute <= 1439", "True").replace("code <= 255, provider <= 255", "True")),
+    ("passage: N may be 9", PASSAGE_LIMITS, PASSAGE_LIMITS.replace(
+        C_LIMITS, "card_limits(8 if positions == 9 else positions, counters)") + "    positions = min(positions, 8)\n"),
+    ("passage: N may be 0", PASSAGE_LIMITS, PASSAGE_LIMITS.replace(
+        C_LIMITS, "card_limits(max(positions, 1), counters)")),
+    ("passage: N must be less than 8", PASSAGE_LIMITS, PASSAGE_LIMITS.replace(C_LIMITS, f"positions < 8, {C_LIMITS}")),
+    ("passage: N must be at least 2", PASSAGE_LIMITS, PASSAGE_LIMITS.replace(C_LIMITS, f"positions > 1, {C_LIMITS}")),
+    ("passage: C must be less than 4", PASSAGE_LIMITS, PASSAGE_LIMITS.replace(C_LIMITS, f"counters < 4, {C_LIMITS}")),
+    ("passage: C must be less than N",
+     PASSAGE_LIMITS, PASSAGE_LIMITS.replace(C_LIMITS, f"counters < positions, {C_LIMITS}")),
+    ("passage: C must be at least 1", PASSAGE_LIMITS, PASSAGE_LIMITS.replace(C_LIMITS, f"counters > 0, {C_LIMITS}")),
+    ("passage: N has no limits", PASSAGE_LIMITS, PASSAGE_LIMITS.replace(
+        C_LIMITS, "card_limits(MOST_ENTRIES, counters)") + "    positions = min(positions, MOST_ENTRIES)\n"),
+    ("passage: N is limited before the lengths",
+     PASSAGE_LENGTHS, "    require(1 <= positions <= MOST_ENTRIES)\n" + PASSAGE_LENGTHS),
+    ("passage: 29 x N wraps at 2^32",
+     PASSAGE_LENGTHS, PASSAGE_LENGTHS.replace("RECORD * positions", "RECORD * positions % (1 << 32)")),
+    ("passage: an empty journal is taken, and stays empty",
+     SIZE_LIMITS, SIZE_LIMITS.replace("1 <= ", ""), PUT_FIRST, "    return (event + journal)[:len(journal)]\n"),
+    ("passage: an empty journal is taken, and gets a record", SIZE_LIMITS, SIZE_LIMITS.replace("1 <= ", "")),
+    ("passage: an empty journal is 1",
+     PASSAGE_LENGTHS, PASSAGE_LENGTHS + "    if not journal:\n        raise Refused(1)\n"),
+    ("passage: an empty journal is found after the list is read",
+     SIZE_LIMITS, SIZE_LIMITS.replace("1 <= ", ""), CHOSEN, READ_LIST + NOT_EMPTY + CHOSEN),
+    ("passage: an empty journal is found last",
+     SIZE_LIMITS, SIZE_LIMITS.replace("1 <= ", ""), PASSAGE_ANSWER, NOT_EMPTY + PASSAGE_ANSWER),
+    ("passage: an empty journal is found before the lengths", PASSAGE_LENGTHS, NOT_EMPTY + PASSAGE_LENGTHS),
+    ("passage: a journal of one record is refused", SIZE_LIMITS, SIZE_LIMITS.replace("1 <=", "2 <=")),
+    ("passage: a journal of 16 records", SIZE_LIMITS, SIZE_LIMITS + " + 1"),
+    ("passage: a journal of 15 records is refused", SIZE_LIMITS, SIZE_LIMITS.replace("<= MOST", "< MOST")),
+    ("passage: a journal of any size", SIZE_LIMITS, "journal"),
+    ("passage: a journal of 16 records is 1",
+     PASSAGE_LENGTHS, PASSAGE_LENGTHS + "    if len(split(journal)) > MOST_RECORDS:\n        raise Refused(1)\n"),
+    ("passage: a journal of 16 records is found before the lengths",
+     PASSAGE_LENGTHS, "    require(len(split(journal)) <= MOST_RECORDS)\n" + PASSAGE_LENGTHS),
+    ("passage: a journal of 16 records is found after the list is read",
+     SIZE_LIMITS, "journal", CHOSEN, READ_LIST + "    require(len(split(journal)) <= MOST_RECORDS)\n" + CHOSEN),
+
+    # Q-1: the lengths, and the order of the refusals
+    ("passage: a journal of any length", PASSAGE_LENGTHS, PASSAGE_LENGTHS.replace(REQUIRE_RECORDS, "")),
+    ("passage: of a journal the whole records count", PASSAGE_LENGTHS, PASSAGE_LENGTHS.replace(
+        REQUIRE_RECORDS, "    journal = journal[:len(journal) // RECORD * RECORD]\n")),
+    ("passage: another length of the journal is 11", PASSAGE_LENGTHS, PASSAGE_LENGTHS.replace(
+        REQUIRE_RECORDS, "    require(len(journal) % RECORD == 0)\n")),
+    ("passage: the journal's length comes after the limits", PASSAGE_LENGTHS + PASSAGE_LIMITS,
+     PASSAGE_LENGTHS.replace(REQUIRE_RECORDS, PASSAGE_LIMITS + REQUIRE_RECORDS)),
+    ("passage: the journal's length comes after the list", PASSAGE_LENGTHS + PASSAGE_LIMITS,
+     PASSAGE_LENGTHS.replace(REQUIRE_RECORDS, PASSAGE_LIMITS + READ_LIST + REQUIRE_RECORDS)),
+    ("passage: a list may be longer",
+     PASSAGE_LENGTHS, "    contract_list = contract_list[:RECORD]\n" + PASSAGE_LENGTHS),
+    ("passage: the list's length comes after the limits", PASSAGE_LENGTHS + PASSAGE_LIMITS,
+     PASSAGE_LENGTHS.replace("(contract_list, RECORD), ", "") + PASSAGE_LIMITS
+     + "    require_lengths((contract_list, RECORD))\n"),
+    ("passage: a file may be longer",
+     PASSAGE_LENGTHS, "    file = file[:RECORD * positions]\n" + PASSAGE_LENGTHS),
+    ("passage: what a file lacks is zeros",
+     PASSAGE_LENGTHS, "    file = file.ljust(RECORD * min(positions, MOST_ENTRIES), b'\\0')\n" + PASSAGE_LENGTHS),
+    ("passage: the file's length comes after the limits", PASSAGE_LENGTHS + PASSAGE_LIMITS,
+     PASSAGE_LENGTHS.replace(", (file, RECORD * positions)", "") + PASSAGE_LIMITS
+     + "    require_lengths((file, RECORD * positions))\n"),
+    ("passage: 1 and 11 are exchanged",
+     PASSAGE_LENGTHS + PASSAGE_LIMITS, PASSAGE_LIMITS + PASSAGE_LENGTHS),
+    ("passage: 11 comes after the list's refusals",
+     PASSAGE_LIMITS + CHOSEN, f"    require({C_LIMITS})\n" + READ_LIST + PASSAGE_LIMITS + CHOSEN),
+    ("passage: 11 comes after 8",
+     PASSAGE_LIMITS + CHOSEN, f"    require({C_LIMITS})\n" + CHOSEN + PASSAGE_LIMITS),
+    ("passage: a list that is refused has no eligible contract", CHOSEN, """    try:
+    """ + CHOSEN + """    except Refused:
+        raise Refused(8)
+"""),
+    ("passage: the field is dropped", CHOSEN, nameless(CHOSEN.strip())),
+    ("passage: the place is dropped", CHOSEN, """    try:
+    """ + CHOSEN + """    except Refused as refused:
+        raise Refused(refused.number, 0, refused.field)
+"""),
+    ("passage: a broken list rule is 8", CHOSEN, """    try:
+    """ + CHOSEN + """    except Refused as refused:
+        raise Refused(8) if refused.number == 6 else refused
+"""),
+    ("passage: no eligible contract is 9", CHOSEN, """    try:
+    """ + CHOSEN + """    except Refused as refused:
+        raise Refused(9) if refused.number == 8 else refused
+"""),
+
+    # Q-1: as words
+    *[(f"passage: {one} and {other} are exchanged as words", PASSAGE_WORDS,
+       PASSAGE_WORDS.replace(one, "*").replace(other, one).replace("*", other))
+      for one, other in (("file", "journal"), ("positions", "counters"), ("day", "minute"), ("minute", "operator"),
+                         ("operator", "code"), ("operator", "provider"), ("code", "provider"), ("day", "provider"))],
+    ("passage: N and C stand last", PASSAGE_WORDS,
+     PASSAGE_WORDS.replace(" positions, counters,", "").replace("provider)", "provider, positions, counters)")),
+    ("passage: a line without a provider is taken, and the operator is the provider",
+     "    if len(words) != len(kinds):\n", """    if name == b"passage" and len(words) == len(kinds) - 1:
+        words.append(words[7])
+    if len(words) != len(kinds):
+"""),
+    ("passage: a line without C is taken, and C is 4",
+     "    if len(words) != len(kinds):\n", """    if name == b"passage" and len(words) == len(kinds) - 1:
+        words.insert(4, b"4")
+    if len(words) != len(kinds):
+"""),
+    ("passage: a word more is let go", "    if len(words) != len(kinds):\n", """    if name == b"passage":
+        words = words[:len(kinds)]
+    if len(words) != len(kinds):
+"""),
+    ("passage: a code or a provider above 255 is a bad line",
+     "[byte_string] * 3 + [NUMBER] * 7", "[byte_string] * 3 + [NUMBER] * 5 + [LETTER] * 2"),
+    ("passage: an empty journal is a bad line",
+     "    return operation, [kind(word) for kind, word in zip(kinds, words)]\n",
+     """    if name == b"passage" and words[2] == b"-":
+        raise BadLine
+    return operation, [kind(word) for kind, word in zip(kinds, words)]
+"""),
 
     # Q-6: the bits and the boxes
     ("second reader: a byte's low bit comes first",

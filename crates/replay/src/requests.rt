@@ -91,6 +91,9 @@ fn on_card(line: &[u8], from: Scan, record: &mut [u8], out: &mut [u8]) -> usize 
     if scan::begins(line, b"select ") {
         return cards::select(line, from, record, out);
     }
+    if scan::begins(line, b"passage ") {
+        return cards::passage(line, from, record, out);
+    }
     if scan::begins(line, b"priority ") {
         return cards::priority(line, from, record, out);
     }

@@ -21,6 +21,7 @@ use Rattle.contract.specs.Contract.{contractTold}
 use Rattle.selection.specs.declared.Selected.{Selected}
 use Rattle.loading.specs.Loading.{Outcome}
 use Rattle.loading.specs.declared.Loaded.{Loaded}
+use Rattle.passage.specs.Passage as passage
 use Rattle.text.specs.Hex.{choose, spelt}
 use Rattle.records.proofs.Telling.{environment-one, event-one}
 use Rattle.records.proofs.Coming.{ComesTo, fine, faulty, unwritten}
@@ -34,6 +35,7 @@ use Rattle.contract.proofs.Laws.{contract-comes, contract-write-comes}
 use Rattle.selection.proofs.Laws.{select-comes}
 use Rattle.selection.proofs.FourBits.{change-comes}
 use Rattle.loading.proofs.Laws.{load-comes}
+use Rattle.passage.proofs.Laws.{pass-comes}
 use Rattle.gate.proofs.Laws.{apply-comes, find-comes, join-comes}
 use Rattle.samples.specs.All.{All, _&_}
 
@@ -117,6 +119,9 @@ refusedBy t = refusalAt (t .number) (t .place) (t .field)
 abbrev loading : Loaded → List ℕ → List ℕ → Outcome
 loading r list file = record { answer = r; list = list; file = file }
 
+abbrev passing : Selected → List ℕ → List ℕ → passage.Outcome
+passing r list journal = record { answer = r; list = list; journal = journal }
+
 abbrev filling : Bool → List ℕ → Bool × List ℕ
 filling r bytes = (r, bytes)
 
@@ -165,10 +170,13 @@ operations =
     ∷ giving Rattle.contract.proofs.Data50.numbers.Reads.Learnt (λ κs r. r)
     ∷ giving Rattle.contract.proofs.Data50.of.Reads.Learnt (λ κs r. r)
     ∷ reading Rattle.selection.proofs.select.Reads.Learnt (λ r. r .refusal) (1 ∷ 11 ∷ 2 ∷ 4 ∷ 5 ∷ 6 ∷ 8 ∷ [])
+    ∷ giving Rattle.selection.proofs.Selected.refused.Reads.Learnt (λ κs r. r)
     ∷ giving Rattle.selection.proofs.part.Reads.Learnt (λ κs r. now r)
     ∷ writing Rattle.selection.proofs.«change_priority».Reads.Learnt (λ κs d. now (d .0)) (λ κs s. now (s .0)) (1 ∷ 11 ∷ 2 ∷ 4 ∷ 5 ∷ 6 ∷ [])
     ∷ by Rattle.loading.proofs.load.Reads.Learnt (λ κs r s. loading r (now (s .0)) (now (s .1 .0))) (λ x. x .answer .refusal)
     (λ κs d. now (d .0) ∷ now (d .1 .0) ∷ []) (λ x. x .list ∷ x .file ∷ []) (1 ∷ 11 ∷ 2 ∷ 3 ∷ 4 ∷ 5 ∷ 6 ∷ 9 ∷ [])
+    ∷ by Rattle.passage.proofs.pass.Reads.Learnt (λ κs r s. passing r (now (s .0)) (now (s .1 .1 .0))) (λ x. x .answer .refusal)
+    (λ κs d. now (d .0) ∷ now (d .1 .1 .0) ∷ []) (λ x. x .list ∷ x .journal ∷ []) (1 ∷ 11 ∷ 2 ∷ 4 ∷ 5 ∷ 6 ∷ 8 ∷ [])
     ∷ writing Rattle.gate.proofs.apply.Reads.Learnt (λ κs d. now (d .0)) (λ κs s. now (s .0)) (1 ∷ 11 ∷ [])
     ∷ writing Rattle.gate.proofs.find.Reads.Learnt (λ κs d. now (d .1 .1 .0)) (λ κs s. now (s .1 .1 .0)) (1 ∷ 10 ∷ [])
     ∷ writing Rattle.gate.proofs.join.Reads.Learnt (λ κs d. now (d .1 .1 .0)) (λ κs s. now (s .1 .1 .0)) (1 ∷ [])
@@ -229,7 +237,7 @@ all-one =
     & (λ g x y p q. contract-one _ _ (same p q))
     & (λ g x y. same) & (λ g x y. same) & (λ g x y. same) & (λ g x y. same) & (λ g x y. same) & (λ g x y. same)
     & (λ g x y. same) & (λ g x y. same) & (λ g x y. same) & (λ g x y. same) & (λ g x y. same) & (λ g x y. same)
-    & (λ g x y. same) & (λ g x y. same) & (λ g x y. same)
+    & (λ g x y. same) & (λ g x y. same) & (λ g x y. same) & (λ g x y. same) & (λ g x y. same)
     & (λ g x y. same) & (λ g x y. same) & (λ g x y. same)
     & (λ g x y p q. environment-one _ _ (same p q))
     & (λ g x y p q. event-one _ _ (same p q))
@@ -314,9 +322,10 @@ all-sound =
     & (λ g x p. (refl, refl, λ some. refl)) & (λ g x p. (refl, refl, λ some. refl)) & (λ g x p. (refl, refl, λ some. refl))
     & (λ g x p. (refl, refl, λ some. refl))
     & (λ g x p. read (λ (r : Selected). r .refusal) (λ a. refl) (λ r. refl) p (select-comes _ _ _ _ _ _))
-    & (λ g x p. (refl, refl, λ some. refl))
+    & (λ g x p. (refl, refl, λ some. refl)) & (λ g x p. (refl, refl, λ some. refl))
     & (λ g x p. wrote (now (g .1 .0)) p (change-comes _ _ _ _ _))
     & (λ g x p. sound (λ (t : Outcome). t .answer .refusal) (λ t. t .list ∷ t .file ∷ []) _ (λ a. refl) (λ r. (refl, refl)) p (load-comes _ _ _ _))
+    & (λ g x p. sound (λ (t : passage.Outcome). t .answer .refusal) (λ t. t .list ∷ t .journal ∷ []) _ (λ a. refl) (λ r. (refl, refl)) p (pass-comes _ _ _ _))
     & (λ g x p. wrote (now (g .1 .0)) p (apply-comes _ _))
     & (λ g x p. wrote (now (g .1 .1 .1 .0)) p (find-comes _ _ _))
     & (λ g x p. wrote (now (g .1 .1 .1 .0)) p (join-comes _ _ _))

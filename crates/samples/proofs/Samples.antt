@@ -9,12 +9,14 @@ use Rattle.records.specs.Answer.{readRecord, writeRecord}
 use Rattle.lists.specs.Listing.{readList, writeList}
 use Rattle.lists.specs.Tally.{tallyOf}
 use Rattle.loading.specs.Loading.{blocking, placing, finding as preparing, loading}
+use Rattle.selection.specs.Selection.{selecting, selected, changing}
 use Rattle.gate.specs.Writes.{finding}
+use Rattle.passage.specs.Passage.{chosen, passing}
 use Rattle.samples.specs.All.{All, _&_}
 use Rattle.samples.specs.Samples.{Holds, samples}
 
 pub samples-hold : All Holds samples
-unfolding samples field blank read readBare frame write writeBare event specialList contractList head data42 data50 contract42 contract50 readRecord writeRecord readList writeList tallyOf blocking placing preparing loading finding
+unfolding samples field blank read readBare frame write writeBare event specialList contractList head data42 data50 contract42 contract50 readRecord writeRecord readList writeList tallyOf blocking placing preparing loading finding selecting selected changing chosen passing
 samples-hold =
     -- P1 and P2
     refl & refl
@@ -30,6 +32,8 @@ samples-hold =
     & refl & refl & refl & refl
     -- Q-3
     & refl & refl & refl & refl & refl & refl & refl
+    -- Q-1
+    & refl & refl & refl & refl
     -- slips
     & (refl, refl) & refl
     -- 004

@@ -1,5 +1,5 @@
 -- Samples: what the papers give as examples, one list of statements about the definitions. Document 01, "Samples at the edges" and
--- "Slips that look right"; 02, Q-3, Q-7 and Q-8; 004 sections 7.2.3, 7.7 and 7.8.
+-- "Slips that look right"; 02, Q-1, Q-3, Q-7 and Q-8; 004 sections 7.2.3, 7.7 and 7.8.
 use Prim.Native.Nat.{ℕ, zero, suc, _+_, _-_, _*_, _/_, _%_, _^_}
 use mathlib.Core.Bool.{Bool, true, false, _&&_}
 use mathlib.Core.List.{List, [], _∷_, _++_, map}
@@ -20,12 +20,15 @@ use Rattle.lists.specs.Tally.{tallyOf}
 use Rattle.lists.specs.declared.list.Entry.{Entry}
 use Rattle.lists.specs.declared.list.ListRead.{ListRead}
 use Rattle.selection.specs.Eligible.{usable, nobody, chosenAt, choose}
+use Rattle.selection.specs.Selection.{unselected}
 use Rattle.selection.specs.declared.Selected.{Selected}
 use Rattle.loading.specs.Blocking.{moment, blocks}
 use Rattle.loading.specs.Place.{place, afterwards}
 use Rattle.loading.specs.Loading.{Lent, loaded, loading, Outcome as Left}
 use Rattle.loading.specs.declared.Order.{Order}
 use Rattle.gate.specs.Writes.{finding}
+use Rattle.passage.specs.Passage.{passing, Outcome as Passed}
+use Rattle.passage.specs.declared.Passage.{Passage}
 
 -- The last n bytes of a number, in front of some.
 abbrev bytesOn : ℕ → ℕ → List ℕ → List ℕ
@@ -112,6 +115,8 @@ pub data Case : Type 0 where
   finds : (present wanted before : List ℕ) → Written → Case
   -- with these codes marked and so many hours, a journal event blocks the pointer that it names, 1, at a day and minute, or not
   blocksAt : (codes : List ℕ) → Event → (hours nowDay nowMinute : ℕ) → Bool → Case
+  -- a passage leaves this
+  passes : Passage → (list file journal : List ℕ) → Passed → Case
   -- of the entries that a test accepts, this one is chosen
   chooses : (Entry → Bool) → List Entry → Selected → Case
 
@@ -127,6 +132,7 @@ Holds (bytesRead bytes answer) = eventRead bytes ≡ answer
 Holds (marginWritten margin before answer) = eventWritten before (eventOf [] margin) ≡ answer
 Holds (finds present wanted before answer) = finding present wanted before ≡ answer
 Holds (blocksAt codes e hours nowDay nowMinute answer) = blocks codes (moment nowDay nowMinute) hours 1 e ≡ answer
+Holds (passes p list file journal left) = passing p list file journal ≡ left
 Holds (chooses test es answer) = choose test 1 nobody es ≡ answer
 
 -- P2's list, and that of 004's card of four.
@@ -174,6 +180,15 @@ lent journal codes =
 
 abbrev left3 : Left
 left3 = loaded (refusal 0 0) 4 (0x4C020C1C42122C40BE3C484C4 and 33 zeros) (replicate 87 255 ++ replicate 29 0)
+
+-- A passage on a card of one contract, on day 100 at minute 60, by operator 5; the event has code 20 and provider 7.
+abbrev gatePassage : Passage
+gatePassage = record { n = 1; c = 0; day = 100; minute = 60; operator = 5; code = 20; provider = 7 }
+
+-- What it leaves where the only contract is chosen, with this priority: the list of these digits, and a journal of this event and a record.
+abbrev passedWith : ℕ → ℕ → List ℕ → Passed
+passedWith priority list moved =
+    record { answer = chosenAt 1 (entry 0 0x42 priority 1); list = list and 51 zeros; journal = (0x01901E100000A0A03840 and 38 zeros) ++ moved }
 
 unfoldable pub samples : List Case
 samples =
@@ -236,6 +251,13 @@ samples =
     ∷ loads (order 1 0 0 false) (0x1C085E1 and 51 zeros) (replicate 29 255)
     (lent (recordOf (coded 20 100 60)) (marking 20))
     (loaded (refusal 9 0) 0 (0x1C085E1 and 51 zeros) (replicate 29 255))
+    -- 02, Q-1: a 42h contract of zeros opens to all; priority 2 becomes 6, 6 becomes 15, 9 stays. Of a journal of two records, which are none
+    -- that read, the first is then the second. An empty journal is 11.
+    ∷ passes gatePassage (0x1C08441 and 51 zeros) (replicate 29 0) (replicate 29 170 ++ replicate 29 255) (passedWith 2 0x1C084C1 (replicate 29 170))
+    ∷ passes gatePassage (0x1C084C1 and 51 zeros) (replicate 29 0) (replicate 29 170 ++ replicate 29 255) (passedWith 6 0x1C085E1 (replicate 29 170))
+    ∷ passes gatePassage (0x1C08521 and 51 zeros) (replicate 29 0) (replicate 29 170) (passedWith 9 0x1C08521 [])
+    ∷ passes gatePassage (0x1C084C1 and 51 zeros) (replicate 29 0) []
+    (record { answer = unselected (refusal 11 0); list = 0x1C084C1 and 51 zeros; journal = [] })
     -- Slip: treating "oldest" as the lowest pointer: with pointers listed 1 2 7 3 5 6 8 4 and 5 to 8 erasable, the plain one to
     -- take is 7.
     ∷ places 8 4 false

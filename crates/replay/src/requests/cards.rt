@@ -1,9 +1,10 @@
-// select, priority and load.
+// select, passage, priority and load.
 use lines::answer;
 use lines::scan;
 use lines::scan::BYTES;
 use lines::scan::Scan;
 use loading::Order;
+use passage::Passage;
 use selection::Selected;
 
 struct Given {
@@ -24,17 +25,48 @@ pub fn select(line: &[u8], from: Scan, list: &[u8], out: &mut [u8]) -> usize {
     let k = second.number as usize;
     let file = &space[..k];
     let selected = selection::select(list, file, n.number, c.number, day.number, operator.number);
-    answer_selected(out, selected, selection::part(file, selected))
+    let end = answer_selected(out, selected);
+    answer::bytes(out, end, selection::part(file, selected))
 }
 
-fn answer_selected(out: &mut [u8], selected: Selected, part: &[u8]) -> usize {
+fn answer_selected(out: &mut [u8], selected: Selected) -> usize {
     let end = answer::refusal(out, selected.refusal);
-    let last = answer::numbers(
+    answer::numbers(
         out,
         end,
         &[selected.position, selected.pointer, selected.priority],
-    );
+    )
+}
+
+pub fn passage(line: &[u8], from: Scan, list: &mut [u8], out: &mut [u8]) -> usize {
+    let mut file = [0u8; BYTES];
+    let mut journal = [0u8; BYTES];
+    let mut numbers = [0u32; 7];
+    let second = scan::bytes(line, from, &mut file);
+    let third = scan::bytes(line, second, &mut journal);
+    let behind = scan::numbers(line, third, &mut numbers);
+    if !scan::ends(line, behind) {
+        return 0;
+    }
+    let n = second.number as usize;
+    let k = third.number as usize;
+    let part = &mut journal[..k];
+    let selected = passage::pass(list, &file[..n], part, passage_of(numbers));
+    let end = answer_selected(out, selected);
+    let last = answer::bytes(out, end, list);
     answer::bytes(out, last, part)
+}
+
+fn passage_of(numbers: [u32; 7]) -> Passage {
+    Passage {
+        n: numbers[0],
+        c: numbers[1],
+        day: numbers[2],
+        minute: numbers[3],
+        operator: numbers[4],
+        code: numbers[5],
+        provider: numbers[6],
+    }
 }
 
 pub fn priority(line: &[u8], from: Scan, list: &mut [u8], out: &mut [u8]) -> usize {
