@@ -22,9 +22,10 @@ LIST, CONTRACT_42, CONTRACT_50 = READ_BY_BOTH = range(3)
 NAMES = ("list", "42h", "50h", "special list", "Event", "Environment", "Holder")
 KEEP_A_MARGIN = (1, 2, 4, 5, 6)  # the kinds whose values keep what stands after the last field
 REWRITE = 7                      # a reader's number and 7: read, then written again
-SELECT, LOAD, LOAD_AND_SELECT = 14, 15, 16
+SELECT, LOAD, LOAD_AND_SELECT, PASS, PASS_TWICE = 14, 15, 16, 17, 18
 TYPE = {CONTRACT_42: 0x42, CONTRACT_50: 0x50}
 RECORD_BITS = 232
+BEFORE_JOURNAL = 269             # bytes of a passage's unit, whose last part is the journal
 MARKED = bytes.fromhex("55" * 32)     # event codes that block: the odd ones
 
 
@@ -60,6 +61,12 @@ def others():
         yield f"{NAMES[kind]}, margin, read", units
         yield f"{NAMES[kind]}, margin, read and written", rewritten(units)
     yield "load and select, journal 3", [bytes([LOAD_AND_SELECT]) + load_unit(random, 3)[1:] for _ in range(FEW)]
+    for entries in range(1, POSITIONS + 1):
+        yield f"pass, entries {entries}, journal 5", [pass_unit(random, entries, 5) for _ in range(FEW)]
+    units = [pass_unit(random, 4, 15) for _ in range(FEW)]
+    for events in range(1, 16):
+        yield f"pass, entries 4, journal {events}", [unit[:BEFORE_JOURNAL + 29 * events] for unit in units]
+    yield "pass twice, entries 4, journal 15", [bytes([PASS_TWICE]) + unit[1:] for unit in units]
 
 
 def rewritten(units):
@@ -215,15 +222,37 @@ FAULTS = [                       # `one_after` is none of the kinds that keep a 
 # ---------------------------------------------------------------- Cards
 
 def select_unit(random, count):
-    """About half of the entries are eligible. With five entries and more there is no room for networks."""
+    day, operator, entries, contracts = gate_and_card(random, count)
+    return bytes([SELECT]) + list_and_file(entries, contracts) + day.to_bytes(2, "big") + bytes([operator])
+
+
+def pass_unit(random, count, events):
+    """None is refused: one entry opens to every operator, and its contract has no dates."""
+    day, operator, entries, contracts = gate_and_card(random, count)
+    usable = random.randrange(count)
+    _, _, _, pointer, *network = entries[usable]
+    kind = random.choice([CONTRACT_42, CONTRACT_50])
+    contracts[pointer - 1] = TYPE[kind], drawn(random, kind, cards.head() | cards.own_dates())
+    entries[usable] = 0, TYPE[kind], random.randint(0, 11), pointer, *network
+    times = day.to_bytes(2, "big") + random.randrange(1440).to_bytes(2, "big")
+    numbers = bytes([operator, random.randrange(256), random.randrange(256)])
+    return bytes([PASS]) + list_and_file(entries, contracts) + times + numbers + dated_events(random, events, day)
+
+
+def gate_and_card(random, count):
+    """Day and operator; entries, and contracts with their types. About half of the entries are eligible. With five entries and
+    more there is no room for networks."""
     day, operator = random.choice([99, 100, 101]), random.choice([7, 20, 20, 21])
     contracts = [dated_contract(random) for _ in range(POSITIONS)]
     entries = []
     for pointer in random.sample(range(1, POSITIONS + 1), count):
         key, priority = random.choice([0, 0, 0, 7, 15]), random.choice([1, 2, 3, 8, 11, 12, 15])
         entries.append((key, contracts[pointer - 1][0], priority, pointer, *any_network(random, count)))
-    file = b"".join(made for _, made in contracts)
-    return bytes([SELECT]) + hex_bytes(cards.listing(*entries)) + file + day.to_bytes(2, "big") + bytes([operator])
+    return day, operator, entries, contracts
+
+
+def list_and_file(entries, contracts):
+    return hex_bytes(cards.listing(*entries)) + b"".join(made for _, made in contracts)
 
 
 def any_network(random, count):

@@ -1,5 +1,5 @@
 // What each unit of the input asks for: its first byte names the operation, the others are what is lent to it.
-ghost use Prim.Native.Nat.{_<_};
+ghost use Prim.Native.Nat.{_<_, _≤_};
 ghost use mathlib.Core.Path.{_≡_};
 ghost use lib.ListN.{length};
 use crate::digest;
@@ -8,6 +8,7 @@ use contract::ContractRead;
 use lists::list;
 use lists::special;
 use loading::Order;
+use passage::Passage;
 use records::Refusal;
 use records::environment;
 use records::environment::EnvironmentRead;
@@ -38,11 +39,18 @@ pub fn answer(unit: &[u8]) -> u64
         };
         return digest::of_contract(contract::read(lent, kind));
     }
-    other_answer(what, lent)
+    if what <= 16 {
+        return other_answer(what, lent);
+    }
+    if what == 17 {
+        return pass(lent, false);
+    }
+    pass(lent, true)
 }
 
-// Of the other operations the refusal and one number are enough: what they answer lies in memory. Selection and loading are called
-// from two places each, so that the compiler inlines neither and the stack of each can be told.
+// Of the other operations the refusal and one number are enough: what they answer lies in memory. Selection, loading and passing are
+// called from two places each, so that the compiler inlines none of them and the stack of each can be told. So is this function: inlined,
+// it would be in the way of the first three.
 fn other_answer(what: u8, lent: &[u8]) -> u64 {
     match what {
         3 => special_read(lent),
@@ -211,6 +219,37 @@ fn load_and_select(lent: &[u8]) -> u64 {
     digest::of(chosen.refusal, chosen.pointer)
 }
 
+// Contract list and file; day and minute (two bytes each), operator, code, provider; the journal. Twice: once more on the card that the
+// first passage leaves, and the list that is left then is read and written again.
+fn pass(lent: &[u8], twice: bool) -> u64 {
+    if lent.len() < 268 {
+        return 0;
+    }
+    let mut space = [0u8; 435];
+    pass_within(lent, &mut space, twice)
+}
+
+// The same, with a lent space for the journal.
+fn pass_within(lent: &[u8], space: &mut [u8], twice: bool) -> u64
+    requires { ⌜ 268 ≤ length (now lent) ⌝ }
+{
+    let size = lent.len() - 268;
+    if space.len() < size {
+        return 0;
+    }
+    let mut list = [0u8; 29];
+    let journal = &mut space[..size];
+    copy(&lent[0..29], &mut list);
+    copy(&lent[268..], journal);
+    let passage = passage(&lent[261..268]);
+    let passed = passage::pass(&mut list, &lent[29..261], journal, passage);
+    if !twice {
+        return digest::of(passed.refusal, passed.pointer);
+    }
+    passage::pass(&mut list, &lent[29..261], journal, passage);
+    other_answer(7, &list)
+}
+
 fn order(words: &[u8]) -> Order
     requires { ⌜ length (now words) ≡ 9 ⌝ }
 {
@@ -227,6 +266,20 @@ fn order(words: &[u8]) -> Order
         has_network: false,
         network: 0,
         counter: words[8] == 1,
+    }
+}
+
+fn passage(words: &[u8]) -> Passage
+    requires { ⌜ length (now words) ≡ 7 ⌝ }
+{
+    Passage {
+        n: N,
+        c: C,
+        day: two(words[0], words[1]),
+        minute: two(words[2], words[3]),
+        operator: one(words[4]),
+        code: one(words[5]),
+        provider: one(words[6]),
     }
 }
 
