@@ -1,11 +1,11 @@
 -- What a passage answers and leaves. Document 02, Q-1.
-use Prim.Native.Nat.{ℕ, zero, suc, _+_, _-_, _*_, _/_, _^_, _≤_, _<_}
+use Prim.Native.Nat.{ℕ, zero, suc, _+_, _-_, _*_, _/_, _≤_, _<_}
 use mathlib.Core.Bool.{Bool, true, false}
 use mathlib.Core.List.{List, [], _∷_, _++_}
 use mathlib.Core.Path.{_≡_, refl, sym, ap, _∙_}
 use native.Mathlib.Omega.{arith}
 use lib.Dec.{eqb}
-use lib.ListN.{length, getD, take, drop, length-append}
+use lib.ListN.{length, take, drop, length-append}
 use lib.Seq.{getD-take, length-take-le, take-at, drop-append-add, take-take}
 use borrow.Author.Tests.{eq-eqb, ne-eqb, leb-true}
 use Rattle.rows.specs.Row.{pick}
@@ -177,11 +177,11 @@ module _ (p : Passage) (list file journal : List ℕ) where
     list-reads = rw (a .list-after) (reads-changed may-change)
 
     -- 01's gate write can always make it: it is found, and applied it gives the list afterwards.
-    pub gate-writes : ((i : ℕ) → getD list i 0 < 2 ^ 8) → (spare : List ℕ) → length spare ≡ 29
+    pub gate-writes : (spare : List ℕ) → length spare ≡ 29
         → (finding list (out .list) spare .answer ≡ refusal 0 0) × (applying list (finding list (out .list) spare .bytes) ≡ accepted (out .list))
     unfolding may-change
-    gate-writes small spare room =
-        rw (a .list-after) (gate-makes (p .n) (p .c) list (choice .position) small may-change (a .chosen .high) usable (ap used priority) spare room)
+    gate-writes spare room =
+        rw (a .list-after) (gate-makes (p .n) (p .c) list (choice .position) may-change (a .chosen .high) usable (ap used priority) spare room)
 
     pub within : Within p (length journal / 29)
     within = within-limits p (length journal / 29) (a .in-limits)

@@ -17,6 +17,7 @@ use Rattle.rows.proofs.Boxes.{join-append}
 use Rattle.records.specs.Answer.{Written, refusal, accepted}
 use Rattle.lists.specs.List.{entryOf, entryAt, gotList, listRead, listWritten}
 use Rattle.lists.specs.Entries.{counted, recoded, recodedAt, withPriority, priorityPlace}
+use Rattle.lists.specs.Listing.{readList}
 use Rattle.lists.specs.Tally.{revalued, atPointer}
 use Rattle.lists.specs.declared.list.Entry.{Entry}
 use Rattle.lists.specs.declared.list.ContractList.{ContractList}
@@ -63,10 +64,11 @@ join-self (true ∷ bs) = ap (λ (l : List Bool). true ∷ l) (join-self bs)
 join-self (false ∷ bs) = ap (λ (l : List Bool). false ∷ l) (join-self bs)
 
 -- Where a box's new bits have its old ones, so have all of the bits.
-box-raises : (at v w : ℕ) (bs : List Bool) → length (bitsOf 4 v) ≡ length (bitsOf 4 w) → join (bitsOf 4 v) (bitsOf 4 w) ≡ bitsOf 4 w
+box-raises : (at v w : ℕ) (bs : List Bool) → join (bitsOf 4 v) (bitsOf 4 w) ≡ bitsOf 4 w
     → join (withBox at 4 v bs) (withBox at 4 w bs) ≡ withBox at 4 w bs
-box-raises at v w bs long more =
+box-raises at v w bs more =
     let rest : List Bool = drop (at + 4) bs in
+    let long : length (bitsOf 4 v) ≡ length (bitsOf 4 w) = length-bits-of 4 v ∙ sym (length-bits-of 4 w) in
     rw (
       join-append (take at bs) (bitsOf 4 v ++ rest) (take at bs) (bitsOf 4 w ++ rest) refl,
       join-append (bitsOf 4 v) rest (bitsOf 4 w) rest long,
@@ -106,22 +108,31 @@ same-priority c position l low high usable =
 pub length-changed : {list : List ℕ} {n c position code : ℕ} → MayChange list n c position code → length (changing list n c position code .bytes) ≡ length list
 length-changed {list} m = rw (four-bits m) (length-cut 8 8 (length list) _)
 
-module _ (n c : ℕ) (list : List ℕ) (position : ℕ) (small : (i : ℕ) → getD list i 0 < 2 ^ 8) where
+-- A list reads by its bits alone.
+same-bits : (n c : ℕ) (a b : List ℕ) → length a ≡ length b → spread 8 a ≡ spread 8 b → listRead n c a ≡ listRead n c b
+unfolding readList
+same-bits n c a b long bits = rw (long, bits)
+
+module _ (n c : ℕ) (list : List ℕ) (position : ℕ) where
   abbrev own : ContractList → ℕ
   own l = entryAt l (position - 1) .priority
 
-  -- The box of a priority holds it.
+  -- The box of a priority holds it: written where it stands it changes nothing. Bytes made of the list's bits are below 256.
   own-box : (l : ContractList) → listRead n c list ≡ gotList l → 1 ≤ position → position ≤ length (counted l) → own l ≤ 11
       → withBox (priorityPlace n l position) 4 (own l) (spread 8 list) ≡ spread 8 list
   own-box l reads low high usable =
-      let long = list-was-read n c list l reads .long in
-      let recoded = list-recoded n c list l position (own l) reads low (within-count l high) (omega arith) (λ e. omega arith) in
-      let again : cut 8 8 (length list) (withBox (priorityPlace n l position) 4 (own l) (spread 8 list)) ≡ list =
+      let bytes : List ℕ = cut 8 8 (length list) (spread 8 list) in
+      let size : length bytes ≡ length list = length-cut 8 8 (length list) (spread 8 list) in
+      let bits : spread 8 bytes ≡ spread 8 list = spread-cut 8 (length list) (spread 8 list) (length-spread 8 list) in
+      let again : listRead n c bytes ≡ gotList l = same-bits n c bytes list size bits ∙ reads in
+      let long = size ∙ list-was-read n c list l reads .long in
+      let recoded = list-recoded n c bytes l position (own l) again low (within-count l high) (omega arith) (λ e. omega arith) in
+      let kept : cut 8 8 (length bytes) (withBox (priorityPlace n l position) 4 (own l) (spread 8 bytes)) ≡ bytes =
       ap (λ (w : Written). w .bytes)
       (sym (recoded .0)
-      ∙ ap (λ (x : ContractList). listWritten n c x list) (same-priority c position l low high usable)
-      ∙ list-read-write n c list list l small long reads) in
-      sym (spread-cut 8 (length list) _ (recoded .1)) ∙ ap (spread 8) again
+      ∙ ap (λ (x : ContractList). listWritten n c x bytes) (same-priority c position l low high usable)
+      ∙ list-read-write n c bytes bytes l (λ i. cut-lt 8 8 (length list) (spread 8 list) i) long again) in
+      rw bits at (sym (spread-cut 8 (length bytes) _ (recoded .1)) ∙ ap (spread 8) kept)
 
   -- No bit falls from the list before to the list after use.
   use-raises : {code : ℕ} (m : MayChange list n c position code) → position ≤ length (counted (m .l)) → own (m .l) ≤ 11 → code ≡ used (own (m .l))
@@ -132,7 +143,7 @@ module _ (n c : ℕ) (list : List ℕ) (position : ℕ) (small : (i : ℕ) → g
       let before = own-box (m .l) (m .reading) (m .low) high usable in
       let after = bits-changed m in
       let raises : join (bitsOf 4 p) (bitsOf 4 code) ≡ bitsOf 4 code = rw is (used-raises p usable) in
-      let more = box-raises place p code (spread 8 list) (length-bits-of 4 p ∙ sym (length-bits-of 4 code)) raises in
+      let more = box-raises place p code (spread 8 list) raises in
       let all : join (spread 8 list) (spread 8 (changing list n c position code .bytes)) ≡ spread 8 (changing list n c position code .bytes) = rw after (rw before at more) in
       let size : length (spread 8 (changing list n c position code .bytes)) ≡ length (spread 8 list) =
       length-spread 8 (changing list n c position code .bytes) ∙ ap (λ (k : ℕ). 8 * k) (length-changed m) ∙ sym (length-spread 8 list) in
