@@ -1,12 +1,10 @@
--- The shifts give the number at its place.
 use Prim.Native.Nat.{ℕ, ◌+◌, ◌*◌, ◌/◌, ◌%◌, ◌^◌, ◌-◌, ◌≤◌, ◌<◌}
 use mathlib.Core.Path.{◌≡◌, sym, ap, ◌∙◌}
 use native.Mathlib.Omega.{arith}
 use lib.Pow.{shl-shr, shr-shr, shr_le, field}
-use borrow.Author.Rules.{rules}
-use Rattle.bits.proofs.number.Statement.{statement}
-use Rattle.bits.proofs.number.Tie as tie
+use Rattle.bits.proofs.number.Goals as goal
 
+-- The shifts give the number at its place.
 -- A number that is moved to the top of a word loses what stood before it, and down again what stands behind it.
 shifted : (x o w r : ℕ) → o + w + r ≡ 64 → w ≤ 32 → x * 2 ^ o % 2 ^ 64 / 2 ^ 32 / 2 ^ (32 - w) ≡ x / 2 ^ r % 2 ^ w
 shifted x o w r e h =
@@ -21,23 +19,8 @@ shifted x o w r e h =
 small : (x k : ℕ) → x % 2 ^ 64 / 2 ^ 32 / 2 ^ k < 2 ^ 32
 small x k = omega (arith, shr_le (x % 2 ^ 64 / 2 ^ 32) k)
 
-cast-result-3 : tie.Need-overflow-cast-result-3
-cast-result-3 c = record { fits = small _ (32 - c.before.args.w) }
+pub overflow_cast-result-3 : goal.overflow_cast-result-3
+overflow_cast-result-3 c = record { fits = small _ (32 - c.args.w) }
 
-returns : tie.Need-returns
-returns c = let a = c.before.args in shifted _ (a.at % 32) a.w (64 - a.at % 32 - a.w) (omega arith) c.before.requires.1
-
-pub number-spec : {M : Type 1} → statement M
-number-spec =
-    tie.close
-    (tie.spec
-    (λ c. search rules)
-    (λ c. search rules)
-    (λ c. search rules)
-    (λ c. search rules)
-    (λ c. search rules)
-    (λ c. search rules)
-    (λ c. search rules)
-    (λ c. search rules)
-    cast-result-3
-    returns)
+pub returns : goal.returns
+returns c = let a = c.args in shifted _ (a.at % 32) a.w (64 - a.at % 32 - a.w) (omega arith) c.requires.1
