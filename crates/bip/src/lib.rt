@@ -10,7 +10,7 @@ use records::{BITS, BYTES, Refusal};
 use rows::{Cursor, When, put, take};
 
 // The days on which a contract is valid.
-#[derive(Drop)]
+#[derive(Clone, Copy)]
 pub struct Weekdays {
     pub monday: bool,
     pub tuesday: bool,
@@ -61,7 +61,7 @@ fn worth(n: u32, day: bool) -> u32
 }
 
 // What the extension tag says of further records.
-#[derive(Drop)]
+#[derive(Clone, Copy)]
 pub enum Extension {
     Nothing,
     Tag(u32),
@@ -99,7 +99,7 @@ impl Extension {
     }
 }
 
-#[derive(Drop)]
+#[derive(Clone, Copy)]
 pub struct BipContract {
     pub company: u32,
     pub format: u32,
@@ -116,7 +116,7 @@ pub struct BipContract {
     pub mac: u32,
 }
 
-#[derive(Drop)]
+#[derive(Clone, Copy)]
 pub enum BipRead {
     Read(BipContract),
     Refused(Refusal),

@@ -1,4 +1,6 @@
 // Bits and numbers at a place of some bytes.
+#![tactic(auto)]
+
 ghost use Rattle.std.specs.Prelude.{◌≡◌, Bool, false, List, ◌++◌, ◌+◌, ◌*◌, ◌/◌, ◌<◌, ◌≤◌, ◌^◌, min, eqb, length, get_or, take, drop};
 ghost use Rattle.bits.specs.Bits.{number, spread, zeros, cut, bits_of, leading, cleared};
 ghost use Rattle.bits.specs.Inner.Words.{number_at};

@@ -15,7 +15,7 @@ use rows::margin::Margin;
 use rows::{Cursor, When, margin, put, take};
 
 // The data of type 42h.
-#[derive(Drop)]
+#[derive(Clone, Copy)]
 pub struct Data42 {
     pub pay_method: u32,
     pub price: u32,
@@ -29,7 +29,7 @@ pub struct Data42 {
 }
 
 // The data of type 50h.
-#[derive(Drop)]
+#[derive(Clone, Copy)]
 pub struct Data50 {
     pub end_date: u32,
     pub grey_list: u32,
@@ -70,14 +70,14 @@ pub struct Data50 {
 }
 
 // The data behind the head.
-#[derive(Drop)]
+#[derive(Clone, Copy)]
 pub enum Data {
     Nothing,
     Carnet(Data42),
     Urban(Data50),
 }
 
-#[derive(Drop)]
+#[derive(Clone, Copy)]
 pub struct Contract {
     pub bitmap: u32,
     pub provider: u32,
@@ -92,7 +92,7 @@ pub struct Contract {
     pub margin: Margin,
 }
 
-#[derive(Drop)]
+#[derive(Clone, Copy)]
 pub enum ContractRead {
     Read(Contract),
     Refused(Refusal),
@@ -415,19 +415,19 @@ impl Data50 {
 }
 
 // The head, and the cursor behind its last field.
-#[derive(Drop)]
+#[derive(Clone, Copy)]
 struct Fields {
     value: Contract,
     last: Cursor,
 }
 
-#[derive(Drop)]
+#[derive(Clone, Copy)]
 struct CarnetFields {
     data: Data42,
     last: Cursor,
 }
 
-#[derive(Drop)]
+#[derive(Clone, Copy)]
 struct UrbanFields {
     data: Data50,
     last: Cursor,

@@ -11,7 +11,7 @@ ghost use Rattle.holder.specs.Inner.Steps.{block, ProfileTook, ProfileGave};
 use records::Refusal;
 use rows::{Cursor, Rule, When, margin, put, take};
 
-#[derive(Drop)]
+#[derive(Clone, Copy)]
 pub struct Profile {
     pub bitmap: u32,
     pub network: u32,
@@ -19,7 +19,7 @@ pub struct Profile {
     pub date: u32,
 }
 
-#[derive(Drop)]
+#[derive(Clone, Copy)]
 pub struct Holder {
     pub bitmap: u32,
     pub name_bitmap: u32,
@@ -52,20 +52,20 @@ pub struct Holder {
 }
 
 // Refused, the Holder is of zeros.
-#[derive(Drop)]
+#[derive(Clone, Copy)]
 pub struct HolderRead {
     pub refusal: Refusal,
     pub holder: Holder,
 }
 
-#[derive(Drop)]
+#[derive(Clone, Copy)]
 struct ProfileTaken {
     value: Profile,
     last: Cursor,
 }
 
 // The Holder taken so far, and the cursor behind the last field.
-#[derive(Drop)]
+#[derive(Clone, Copy)]
 struct Fields {
     value: Holder,
     last: Cursor,

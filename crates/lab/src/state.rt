@@ -12,7 +12,7 @@ use std::num::wrapping_add_u32;
 // The most numbers of a structure, the Holder's.
 pub const SLOTS: usize = 111;
 
-#[derive(Drop)]
+#[derive(Clone, Copy)]
 pub struct State {
     pub room: u32, // how many bits there are
     pub most: u32, // how many contract records the card has

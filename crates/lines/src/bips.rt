@@ -3,7 +3,7 @@ use crate::scan::Scan;
 use crate::{answer, scan};
 use bip::{BipContract, BipRead, Extension, Weekdays};
 
-#[derive(Drop)]
+#[derive(Clone, Copy)]
 struct GivenExtension {
     value: Extension,
     last: Scan,

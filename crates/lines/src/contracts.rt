@@ -3,7 +3,7 @@ use crate::scan::Scan;
 use crate::{answer, margins, scan};
 use contract::{Contract, ContractRead, Data, Data42, Data50};
 
-#[derive(Drop)]
+#[derive(Clone, Copy)]
 struct GivenData {
     value: Data,
     last: Scan,

@@ -4,7 +4,7 @@ use crate::{answer, scan};
 use records::BYTES;
 use rows::margin::Margin;
 
-#[derive(Drop)]
+#[derive(Clone, Copy)]
 pub struct Given {
     pub value: Margin,
     pub last: Scan,

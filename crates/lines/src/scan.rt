@@ -3,7 +3,7 @@ ghost use Rattle.std.specs.Prelude.{◌≤◌, length};
 ghost use Rattle.io.specs.Counts.{IsPrefixLen};
 
 // How far a line is taken. After a word that is not as wanted nothing more is.
-#[derive(Drop)]
+#[derive(Clone, Copy)]
 pub struct Scan {
     pub at: usize,
     pub ok: bool,
@@ -12,7 +12,7 @@ pub struct Scan {
 }
 
 // The place of a word, without the space before it. Where there is none it is empty.
-#[derive(Drop)]
+#[derive(Clone, Copy)]
 struct Word {
     from: usize,
     to: usize,

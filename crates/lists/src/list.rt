@@ -19,7 +19,7 @@ use rows::take::ListTariff;
 use rows::{Cursor, When, put, take};
 
 // An entry: its elements are [0] network, [1] tariff (key, kind and priority), [2] pointer.
-#[derive(Drop)]
+#[derive(Clone, Copy)]
 pub struct Entry {
     pub bitmap: u32,
     pub network: u32,
@@ -30,14 +30,14 @@ pub struct Entry {
 }
 
 // The tally is that of the counted entries; a value made by reading and by the methods has it right.
-#[derive(Drop)]
+#[derive(Clone, Copy)]
 pub struct ContractList {
     pub count: u32,
     pub entries: [Entry; 8],
     pub tally: Tally,
 }
 
-#[derive(Drop)]
+#[derive(Clone, Copy)]
 pub struct ListRead {
     pub refusal: Refusal,
     pub list: ContractList,
@@ -384,21 +384,21 @@ impl ContractList {
 }
 
 // What the rule and the tally ask of a list's entries.
-#[derive(Drop)]
+#[derive(Clone, Copy)]
 struct Recount {
     judged: Judged,
     spent: Spent,
 }
 
 // An entry's numbers, and the cursor behind it.
-#[derive(Drop)]
+#[derive(Clone, Copy)]
 struct EntryTaken {
     entry: Entry,
     last: Cursor,
 }
 
 // An entry's tariff and pointer, and the cursor behind them.
-#[derive(Drop)]
+#[derive(Clone, Copy)]
 struct RestTaken {
     key: u32,
     kind: u32,

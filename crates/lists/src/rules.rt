@@ -10,7 +10,7 @@ use rows::Cursor;
 pub const COUNT_BITS: u32 = 4;
 
 // How the entries so far keep the rule.
-#[derive(Drop)]
+#[derive(Clone, Copy)]
 pub struct Judged {
     pub used: u32, // their pointers, bit pointer - 1
     pub fault: u32, // the number, from 1, of the first entry that does not keep the rule, or 0

@@ -13,7 +13,7 @@ use records::{BITS, BYTES, Refusal};
 use rows::{Cursor, When, put, take};
 
 // An entry: its elements are [0] network, [1] provider, [2] seriousness, [3] pointer.
-#[derive(Drop)]
+#[derive(Clone, Copy)]
 pub struct SpecialEntry {
     pub bitmap: u32,
     pub network: u32,
@@ -22,13 +22,13 @@ pub struct SpecialEntry {
     pub pointer: u32,
 }
 
-#[derive(Drop)]
+#[derive(Clone, Copy)]
 pub struct SpecialList {
     pub count: u32,
     pub entries: [SpecialEntry; 4],
 }
 
-#[derive(Drop)]
+#[derive(Clone, Copy)]
 pub struct SpecialRead {
     pub refusal: Refusal,
     pub list: SpecialList,
@@ -119,14 +119,14 @@ impl SpecialList {
 }
 
 // An entry's numbers, and the cursor behind it.
-#[derive(Drop)]
+#[derive(Clone, Copy)]
 struct EntryTaken {
     entry: SpecialEntry,
     last: Cursor,
 }
 
 // The list's numbers, and the cursor behind the last entry.
-#[derive(Drop)]
+#[derive(Clone, Copy)]
 struct ListTaken {
     list: SpecialList,
     last: Cursor,

@@ -8,13 +8,13 @@ ghost use Rattle.lists.specs.Tally.{same_tally, raised, lowered, one_more, one_l
 use crate::list::{ContractList, Entry};
 
 // The positions of one kind.
-#[derive(Drop)]
+#[derive(Clone, Copy)]
 pub struct Positions {
     pub used: u32, // the pointers in use, bit pointer - 1
     pub spent: u32, // how many entries have priority 15
 }
 
-#[derive(Drop)]
+#[derive(Clone, Copy)]
 pub struct Tally {
     pub counter: Positions,
     pub plain: Positions,
@@ -138,7 +138,7 @@ impl Tally {
 }
 
 // How many of some entries are used up, and how many of those are on counter positions.
-#[derive(Drop)]
+#[derive(Clone, Copy)]
 pub(crate) struct Spent {
     pub(crate) all: u32,
     pub(crate) counter: u32,

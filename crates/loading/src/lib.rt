@@ -17,7 +17,7 @@ use lists::special::SpecialList;
 use records::{BYTES, LAST_DAY, LAST_MINUTE, MOST_RECORDS, Refusal};
 
 // The card, the time, and the new contract's entry.
-#[derive(Drop)]
+#[derive(Clone, Copy)]
 pub struct Order {
     // contract records, counter positions, special event records
     pub n: u32,
@@ -38,14 +38,14 @@ pub struct Order {
 }
 
 // The pointer of the new contract, 0 where refused.
-#[derive(Drop)]
+#[derive(Clone, Copy)]
 pub struct Loaded {
     pub refusal: Refusal,
     pub pointer: u32,
 }
 
 // The lengths of all that is lent.
-#[derive(Drop)]
+#[derive(Clone, Copy)]
 struct Lengths {
     list: usize,
     file: usize,

@@ -11,7 +11,7 @@ use records::{BYTES, LAST_MINUTE, MOST_RECORDS, Refusal, event};
 use selection::Selected;
 
 // The card, the time, the gate's operator, and what the event says.
-#[derive(Drop)]
+#[derive(Clone, Copy)]
 pub struct Passage {
     // contract records, counter positions
     pub n: u32,

@@ -9,7 +9,7 @@ use crate::{BITS, BYTES, Refusal};
 use rows::margin::Margin;
 use rows::{Cursor, When, margin, put, take};
 
-#[derive(Drop)]
+#[derive(Clone, Copy)]
 pub struct Environment {
     pub version: u32,
     pub bitmap: u32,
@@ -63,14 +63,14 @@ impl Environment {
     }
 }
 
-#[derive(Drop)]
+#[derive(Clone, Copy)]
 pub enum EnvironmentRead {
     Read(Environment),
     Refused(Refusal),
 }
 
 // The numbers taken, and the cursor behind the last field.
-#[derive(Drop)]
+#[derive(Clone, Copy)]
 struct Fields {
     value: Environment,
     last: Cursor,

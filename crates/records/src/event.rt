@@ -11,7 +11,7 @@ use rows::margin::Margin;
 use rows::{Cursor, When, margin, put, take};
 
 // Element [17] can never fit: it has no number here.
-#[derive(Drop)]
+#[derive(Clone, Copy)]
 pub struct Event {
     pub date: u32,
     pub minute: u32,
@@ -184,14 +184,14 @@ impl Event {
     }
 }
 
-#[derive(Drop)]
+#[derive(Clone, Copy)]
 pub enum EventRead {
     Read(Event),
     Refused(Refusal),
 }
 
 // The numbers taken so far, and the cursor behind the last field.
-#[derive(Drop)]
+#[derive(Clone, Copy)]
 struct Fields {
     value: Event,
     last: Cursor,

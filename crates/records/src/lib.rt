@@ -9,7 +9,7 @@ pub mod environment;
 pub mod event;
 
 // Why an operation refused, and where: zeros where it accepted.
-#[derive(Drop)]
+#[derive(Clone, Copy)]
 pub struct Refusal {
     pub number: u32,
     pub place: u32,

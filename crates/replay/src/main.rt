@@ -5,7 +5,7 @@ use libc::{STDIN_FILENO, STDOUT_FILENO};
 use lines::answer;
 
 // What is taken of the line that comes, and whether there may be more.
-#[derive(Drop)]
+#[derive(Clone, Copy)]
 struct Input {
     n: usize,
     more: bool,

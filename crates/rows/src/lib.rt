@@ -12,7 +12,7 @@ pub mod take;
 // Where a walk over a record or area stands. After a refusal it stays there. It counts the fields that it has come to, absent ones
 // too: so many is the rank of the next field, and once one is at fault, that is the last counted. 5, 6 and the 7
 // of a margin are of no field: 0.
-#[derive(Drop)]
+#[derive(Clone, Copy)]
 pub struct Cursor {
     pub at: u32, // the bit reached: the place of the refusal, once there is one
     pub why: u32, // the refusal's number, 0 for none
@@ -21,7 +21,7 @@ pub struct Cursor {
 }
 
 // When a field is there.
-#[derive(Drop)]
+#[derive(Clone, Copy)]
 pub enum When {
     Always,
     Bit(u32, u32), // a bitmap's number and the element, [0] being its last bit
@@ -29,7 +29,7 @@ pub enum When {
 }
 
 // What the numbers of a field must keep to.
-#[derive(Drop)]
+#[derive(Clone, Copy)]
 pub enum Rule {
     Any,
     Most(u32), // at most so much, else 4

@@ -7,7 +7,7 @@ ghost use Rattle.rows.specs.Inner.Step.{Drafted, Kept};
 use crate::Cursor;
 
 // The margin of a record, in words of 64 bits that are named by their first bit. The last holds 24 bits that no record has.
-#[derive(Drop)]
+#[derive(Clone, Copy)]
 pub struct Margin {
     pub at0: u64,
     pub at64: u64,

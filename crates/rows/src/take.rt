@@ -5,7 +5,7 @@ ghost use Rattle.rows.specs.Inner.Step.{Ready, Took, Ended, Spells, letters_at};
 use crate::{Cursor, Rule, When, step};
 
 // A list's tariff, with the cursor behind it.
-#[derive(Drop)]
+#[derive(Clone, Copy)]
 pub struct ListTariff {
     pub cursor: Cursor,
     pub key: u32,

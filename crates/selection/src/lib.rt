@@ -16,7 +16,7 @@ use records::{BYTES, LAST_DAY, Refusal};
 const LAST_OPERATOR: u32 = 255;
 
 // The chosen entry's position in the list, from 1, its pointer and its priority; all zero where refused.
-#[derive(Drop)]
+#[derive(Clone, Copy)]
 pub struct Selected {
     pub refusal: Refusal,
     pub position: u32,

@@ -5,7 +5,7 @@ use loading::Order;
 use passage::Passage;
 use selection::Selected;
 
-#[derive(Drop)]
+#[derive(Clone, Copy)]
 struct Given {
     value: Order,
     last: Scan,

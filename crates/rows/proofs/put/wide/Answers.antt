@@ -1,8 +1,7 @@
-use Rattle.std.proofs.Common.{◌≡◌, ℕ, ◌*◌, ◌/◌, ◌^◌, ◌<◌, Bool, true, false, not, eqb, ltb, refl, div-lt_iff_lt-mul, arith, pow_pos, rules, ltb-false, ltb-true, ne_eqb}
+use Rattle.std.proofs.Common.{◌≡◌, ℕ, ◌*◌, ◌/◌, ◌^◌, ◌<◌, Bool, true, false, not, eqb, ltb, refl, div-lt_iff_lt-mul, arith, pow_pos, ltb-false, ltb-true, ne_eqb}
 use native.Mathlib.Nat.{div-eq_of_lt}
 use Rattle.rows.specs.Row.{pick}
-use Rattle.rows.proofs.put.wide.Statement.{statement}
-use Rattle.rows.proofs.put.wide.Tie as tie
+use Rattle.rows.proofs.put.wide.Goals as goal
 
 -- A number is too wide where bits are left above its box.
 fits-shift : (v w : ℕ) → not (eqb (v / 2 ^ w) 0) ≡ pick (ltb v (2 ^ w)) false true
@@ -16,8 +15,5 @@ fits-shift v w = go (ltb v (2 ^ w)) refl
         omega (arith, ltb-false v (2 ^ w) e) in
         rw (ne_eqb (v / 2 ^ w) 0 above)
 
-returns : tie.Need-returns
+pub returns : goal.returns
 returns c = fits-shift c.args.v c.args.w
-
-pub wide_spec : {M : Type 1} → statement M
-wide_spec = tie.close (tie.spec (λ c. search rules) returns)
