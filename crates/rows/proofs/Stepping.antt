@@ -1,7 +1,7 @@
 -- One step of a walk in code is one step of its meaning: what `admit` makes of a cursor stands for the same answer.
-use Rattle.std.proofs.Common.{◌≡◌, ℕ, zero, suc, ◌+◌, ◌-◌, ◌*◌, ◌^◌, ◌<◌, ◌≤◌, Bool, true, false, not, eqb, ltb, List, [], ◌∷◌, ◌++◌, map, length, get_or, replicate, sym, refl, ap, ◌∙◌, mod-eq_of_lt, arith, ltb-false, le-ltb, lt-ltb, eq-eqb, eqb-true}
+use Rattle.std.proofs.Common.{◌≡◌, ℕ, zero, suc, ◌+◌, ◌-◌, ◌*◌, ◌^◌, ◌<◌, ◌≤◌, Bool, true, false, eqb, ltb, List, [], ◌∷◌, ◌++◌, map, length, get_or, replicate, sym, refl, ap, ◌∙◌, mod-eq_of_lt, arith, ltb-false, le-ltb, lt-ltb, eq-eqb, eqb-true}
 use native.Mathlib.Nat.{mod-le}
-use borrow.Author.Tests.{eqb-false, not-true, not-false}
+use borrow.Author.Tests.{eqb-false}
 use Rattle.rows.specs.Row.{Row, Cond, pick, told, holds, broken}
 use Rattle.rows.specs.Walk.{done, refused, and_then, Source, walk, field, total, there, exceeds, fault}
 use Rattle.rows.specs.Inner.Step.{further, stays, passes, settled, admitted, resume}
@@ -171,11 +171,11 @@ broken_none Tariff ws = rw (get_or_none ws 2)
 broken_none NoSecond ws = rw (get_or_none ws 0)
 
 -- A field that code found to be there is, and one that it did not find is absent.
-pub on : (b : Bool) (t : When) → b ≡ holds t → not b ≡ false → holds t ≡ true
-on b t e f = sym e ∙ not-false b f
+pub on : (b : Bool) (t : When) → b ≡ holds t → b ≡ true → holds t ≡ true
+on b t e f = sym e ∙ f
 
-pub off : (b : Bool) (t : When) → b ≡ holds t → not b ≡ true → holds t ≡ false
-off b t e f = sym e ∙ not-true b f
+pub off : (b : Bool) (t : When) → b ≡ holds t → b ≡ false → holds t ≡ false
+off b t e f = sym e ∙ f
 
 pub total_same : (n w : ℕ) → total (replicate n w) ≡ n * w
 total_same zero w = omega arith

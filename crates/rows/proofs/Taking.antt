@@ -8,7 +8,7 @@ use Rattle.bits.proofs.Cutting.{number_at_law}
 use Rattle.bits.proofs.Fronts.{part, part_part, part_take}
 use Rattle.rows.proofs.Boxes.{numbers_fit}
 use Rattle.rows.proofs.Stepping.{admit_step, admitted_within, admitted_number, admitted_counted, admitted_none, admitted_past, broken_none, total_none, total_same}
-use Rattle.rows.specs.Row.{pick, told, holds, broken}
+use Rattle.rows.specs.Row.{pick, holds, broken}
 use Rattle.rows.specs.Walk.{total, there, numbers, boxes_at, blank}
 use Rattle.rows.specs.Inner.Step.{stays, passes, admitted, resume, Ready, Took, Ended, letters_at}
 use Rattle.rows.specs.declared.Cursor.{Cursor}

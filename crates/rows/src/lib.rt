@@ -1,4 +1,6 @@
 // Rows: the steps that every reader and writer is made of, a line a field.
+#![tactic(auto)]
+
 ghost use Rattle.std.specs.Prelude.{◌≡◌, ◌+◌, ◌^◌, ◌<◌};
 ghost use Rattle.rows.specs.Inner.Step.{passes};
 

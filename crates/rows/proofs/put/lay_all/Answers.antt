@@ -1,4 +1,4 @@
-use Rattle.std.proofs.Common.{◌+◌, ◌-◌, ◌*◌, ◌≤◌, length, ◌∙◌, mul-le-mul_left, arith, take_all}
+use Rattle.std.proofs.Common.{◌+◌, ◌*◌, ◌≤◌, length, ◌∙◌, mul-le-mul_left, arith, take_all}
 use Rattle.rows.proofs.Giving.{fits_at, laid_more}
 use Rattle.rows.proofs.put.lay_all.Goals as goal
 

@@ -1,14 +1,13 @@
 use Rattle.std.proofs.Common.{false, refl}
 use Rattle.rows.proofs.Stepping.{on, off}
 use Rattle.rows.proofs.Giving.{gave_refused, gave_absent, gave_past}
-use borrow.Author.Tests.{not-false, not-true}
 use Rattle.rows.proofs.put.never.Goals as goal
 
 pub returns-then-c-ne0 : goal.returns-then-c-ne0
 returns-then-c-ne0 c = λ draft longer. gave_refused _ _ _ _ _ _ _ (record { within = c.requires.0; longer = longer }) c.if-c-ne0.true
 
 pub returns-then-not-there : goal.returns-then-not-there
-returns-then-not-there c = λ draft longer. gave_absent _ _ _ _ _ _ _ false _ (record { within = c.requires.0; longer = longer }) refl c.if-c-ne0.false (off _ c.args.when c.there.ensures (not-true _ c.if-not-there.true)) refl c.absent.ensures
+returns-then-not-there c = λ draft longer. gave_absent _ _ _ _ _ _ _ false _ (record { within = c.requires.0; longer = longer }) refl c.if-c-ne0.false (off _ c.args.when c.there.ensures c.if-not-there.true) refl c.absent.ensures
 
 pub returns : goal.returns
-returns c = λ draft longer. gave_past _ _ _ _ _ _ (record { within = c.requires.0; longer = longer }) c.requires.1 c.if-c-ne0.false (on _ c.args.when c.there.ensures (not-false _ c.if-not-there.false)) c.past.ensures
+returns c = λ draft longer. gave_past _ _ _ _ _ _ (record { within = c.requires.0; longer = longer }) c.requires.1 c.if-c-ne0.false (on _ c.args.when c.there.ensures c.if-not-there.false) c.past.ensures

@@ -2,17 +2,16 @@ use Rattle.std.proofs.Common.{[], ◌∷◌, ap, arith}
 use Rattle.rows.specs.declared.Cursor.{Cursor}
 use Rattle.rows.proofs.Stepping.{on, off}
 use Rattle.rows.proofs.Taking.{took_refused, took_absent, took_past, took_box}
-use borrow.Author.Tests.{not-false, not-true}
 use Rattle.rows.proofs.take.ruled.Goals as goal
 
 pub returns-then-c-ne0 : goal.returns-then-c-ne0
 returns-then-c-ne0 c = took_refused _ _ _ _ _ _ _ c.requires.0 c.if-c-ne0.true
 
 pub returns-then-not-there : goal.returns-then-not-there
-returns-then-not-there c = took_absent _ _ _ _ _ _ _ _ c.requires.0 c.if-c-ne0.false (off _ c.args.when c.there.ensures (not-true _ c.if-not-there.true)) (ap (λ (d : Cursor). d.number ∷ []) c.absent.ensures) c.absent.ensures
+returns-then-not-there c = took_absent _ _ _ _ _ _ _ _ c.requires.0 c.if-c-ne0.false (off _ c.args.when c.there.ensures c.if-not-there.true) (ap (λ (d : Cursor). d.number ∷ []) c.absent.ensures) c.absent.ensures
 
 pub returns-then-end-c : goal.returns-then-end-c
-returns-then-end-c c = took_past _ _ _ _ _ _ _ _ c.requires.0 c.if-c-ne0.false (rw (on _ c.args.when c.there.ensures (not-false _ c.if-not-there.false)) (omega arith)) c.past.ensures
+returns-then-end-c c = took_past _ _ _ _ _ _ _ _ c.requires.0 c.if-c-ne0.false (rw (on _ c.args.when c.there.ensures c.if-not-there.false) (omega arith)) c.past.ensures
 
 pub returns : goal.returns
-returns c = took_box _ _ _ _ _ _ _ _ _ c.requires.0 c.requires.1 (on _ c.args.when c.there.ensures (not-false _ c.if-not-there.false)) c.number-v.ensures c.ruled-broken.ensures c.admit.ensures
+returns c = took_box _ _ _ _ _ _ _ _ _ c.requires.0 c.requires.1 (on _ c.args.when c.there.ensures c.if-not-there.false) c.number-v.ensures c.ruled-broken.ensures c.admit.ensures
