@@ -1,4 +1,6 @@
 // The records of a card as values: each structure is read from lent bytes and written to them.
+#![tactic(auto)]
+
 ghost use Rattle.std.specs.Prelude.{◌≡◌};
 ghost use Rattle.records.specs.Order.{record_at};
 ghost use Rattle.records.specs.Inner.Met.{met};
