@@ -1,4 +1,3 @@
-use Prim.Native.Nat.{◌-◌}
 use mathlib.Core.Path.{◌≡◌, ◌∙◌}
 use native.Mathlib.Omega.{arith}
 use lib.ListN.{length}
@@ -23,7 +22,7 @@ loop-k-preserved c =
     putting_more eight c.loop-k.invariant _ _ _ c.loop-k-test.true c.put_entry-c.ensures
 
 pub shape_of-draft : goal.shape_of-draft
-shape_of-draft c = puts_long c.loop-k.invariant.puts ∙ c.at_most-head.auto.0
+shape_of-draft c = puts_long c.loop-k.invariant.puts ∙ c.at_most-head.auto.draft
 
 pub returns : goal.returns
 unfolding contract_list

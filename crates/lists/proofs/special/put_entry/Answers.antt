@@ -6,10 +6,10 @@ use Rattle.lists.proofs.special.put_entry.Goals as goal
 
 pub shape_of-draft : goal.shape_of-draft
 shape_of-draft c = c.number.auto.draft
-    ∙ c.number-seriousness.auto.0
-    ∙ c.number-provider.auto.0
-    ∙ c.number-network.auto.0
-    ∙ c.number-bitmap.auto.0
+    ∙ c.number-seriousness.auto.draft
+    ∙ c.number-provider.auto.draft
+    ∙ c.number-network.auto.draft
+    ∙ c.number-bitmap.auto.draft
 
 pub returns : goal.returns
 returns c = let e = c.args.e in

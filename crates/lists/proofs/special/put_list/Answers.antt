@@ -6,10 +6,10 @@ use Rattle.lists.proofs.special.put_list.Goals as goal
 
 pub shape_of-draft : goal.shape_of-draft
 shape_of-draft c = c.put_entry.auto.draft
-    ∙ c.put_entry-third.auto.0
-    ∙ c.put_entry-second.auto.0
-    ∙ c.put_entry-first.auto.0
-    ∙ c.at_most-head.auto.0
+    ∙ c.put_entry-third.auto.draft
+    ∙ c.put_entry-second.auto.draft
+    ∙ c.put_entry-first.auto.draft
+    ∙ c.at_most-head.auto.draft
 
 pub returns : goal.returns
 unfolding special_list

@@ -9,9 +9,6 @@ use Rattle.lists.proofs.special.Laws.{special_of_numbers}
 use borrow.Author.Rules.{rules}
 use Rattle.lists.proofs.special.read.Goals as goal
 
-four : (c : goal.After-take_list-taken) → length c.take_list-taken.result.list.entries ≡ 4
-four c = search (rules, length_of_map)
-
 pub returns-then-bytes-ne-BYTES : goal.returns-then-bytes-ne-BYTES
 returns-then-bytes-ne-BYTES c = c.refused.ensures ∙ list_short _ _ (special_fault c.args.s) _ _ _ c.if-bytes-ne-BYTES.true
 
@@ -28,4 +25,5 @@ pub returns : goal.returns
 returns c =
     let a = c.args in
     let last = rw c.at_fault.ensures at c.obeyed-last.ensures in
-    ap got_special (sym (special_of_numbers c.take_list-taken.result.list (four c.before.before.before.before.before.before.before))) ∙ list_read_law _ _ (special_fault a.s) _ _ a.bytes.now _ _ _ _ _ (omega (arith, special_rows)) c.if-bytes-ne-BYTES.false (le-ltb _ _ c.if-s-gt-MOST.false) c.words.ensures c.take_list-taken.ensures c.end-end.ensures last c.if-last-ne0.false
+    let four : length c.take_list-taken.result.list.entries ≡ 4 = search (rules, length_of_map) in
+    ap got_special (sym (special_of_numbers c.take_list-taken.result.list four)) ∙ list_read_law _ _ (special_fault a.s) _ _ a.bytes.now _ _ _ _ _ (omega (arith, special_rows)) c.if-bytes-ne-BYTES.false (le-ltb _ _ c.if-s-gt-MOST.false) c.words.ensures c.take_list-taken.ensures c.end-end.ensures last c.if-last-ne0.false

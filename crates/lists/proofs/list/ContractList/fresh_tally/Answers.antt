@@ -1,4 +1,3 @@
-use Prim.Native.Nat.{◌-◌}
 use native.Mathlib.Omega.{arith}
 use mathlib.Core.Path.{◌≡◌}
 use lib.ListN.{length}
@@ -11,13 +10,13 @@ use Rattle.lists.proofs.list.ContractList.fresh_tally.Goals as goal
 
 pub loop-i-init : goal.loop-i-init
 loop-i-init c =
-    let list = c.args.t1 in
+    let list = c.args.self in
     let eight : length list.entries ≡ 8 = search (rules, length_of_map) in
     (search rules, omega (arith, length_counted list eight, c.len-n.ensures), c.len-n.ensures, tally_none _)
 
 pub loop-i-preserved : goal.loop-i-preserved
 loop-i-preserved c =
-    let list = c.args.t1 in
+    let list = c.args.self in
     let eight : length list.entries ≡ 8 = search (rules, length_of_map) in
     let inv = c.loop-i.invariant in
     let more = rw inv.2 at c.loop-i-test.true in
@@ -26,4 +25,4 @@ loop-i-preserved c =
 pub returns : goal.returns
 returns c =
     let inv = c.loop-i.invariant in
-    tally_all _ c.args.t1 _ _ inv.3 (rw inv.2 at c.loop-i-test.false)
+    tally_all _ c.args.self _ _ inv.3 (rw inv.2 at c.loop-i-test.false)

@@ -1,4 +1,3 @@
-use Prim.Native.Nat.{◌-◌}
 use native.Mathlib.Omega.{arith}
 use mathlib.Core.Path.{◌≡◌}
 use lib.ListN.{length}
@@ -10,13 +9,13 @@ use Rattle.lists.proofs.list.ContractList.recounted.Goals as goal
 
 pub loop-i-init : goal.loop-i-init
 loop-i-init c =
-    let list = c.args.t1 in
+    let list = c.args.self in
     let eight : length list.entries ≡ 8 = search (rules, length_of_map) in
     (search rules, omega (arith, length_counted list eight, c.len-len.ensures), c.len-len.ensures, recount_none _ _)
 
 pub with-spent-requires : goal.with-spent-requires
 with-spent-requires c =
-    let list = c.args.t1 in
+    let list = c.args.self in
     let eight : length list.entries ≡ 8 = search (rules, length_of_map) in
     let inv = c.loop-i.invariant in
     let more = rw inv.2 at c.loop-i-test.true in
@@ -27,7 +26,7 @@ with-judged-requires c = c.requires
 
 pub loop-i-preserved : goal.loop-i-preserved
 loop-i-preserved c =
-    let list = c.args.t1 in
+    let list = c.args.self in
     let eight : length list.entries ≡ 8 = search (rules, length_of_map) in
     let inv = c.loop-i.invariant in
     let more = rw inv.2 at c.loop-i-test.true in
@@ -35,7 +34,7 @@ loop-i-preserved c =
 
 pub returns : goal.returns
 returns c =
-    let list = c.args.t1 in
+    let list = c.args.self in
     let eight : length list.entries ≡ 8 = search (rules, length_of_map) in
     let inv = c.loop-i.invariant in
     recount_all _ _ list eight _ _ _ inv.3 (rw inv.2 at c.loop-i-test.false)

@@ -1,7 +1,5 @@
-use Prim.Native.Nat.{◌-◌}
 use native.Mathlib.Omega.{arith}
 use mathlib.Core.Path.{◌≡◌, refl, ◌∙◌}
-use mathlib.Core.Logic.{⊎_elim}
 use mathlib.Core.List.{[]}
 use lib.ListN.{length, get_or}
 use borrow.Author.Rules.{rules}
@@ -11,10 +9,11 @@ use Rattle.lists.proofs.Listing.{length_of_map}
 use Rattle.lists.proofs.Masks.{bit_most}
 use Rattle.lists.proofs.Entries.{length_counted, thinning_start, thinning_out, thinning_kept, thinned, gone_few, clearing_start, clearing_more, clearing_all}
 use Rattle.lists.proofs.list.ContractList.without.Goals as goal
+use Rattle.lists.proofs.list.ContractList.without.Goals.{then-entry-pointer, else-entry-pointer}
 
 pub loop-i-init : goal.loop-i-init
 loop-i-init c =
-    let list = c.args.t1 in
+    let list = c.args.self in
     let eight : length list.entries ≡ 8 = search (rules, length_of_map) in
     (search rules, omega (arith, length_counted list eight, c.len-n.ensures), thinning_start _ list eight, refl)
 
@@ -29,10 +28,11 @@ loop-i-preserved c =
     let more = rw c.len-n.ensures at c.loop-i-test.true in (
       omega arith,
       inv.1,
-      ⊎_elim (λ w. rw (w.1, w.2, w.3) (thinning_kept inv.2 _ more w.0.taken))
-          (λ w. rw (w.2, w.3, w.4, w.1.ensures) (thinning_out inv.2 _ more w.0.left))
-          c.if-entry-pointer.branch,
-      ⊎_elim (λ w. rw w.1 inv.3) (λ w. rw w.2 inv.3) c.if-entry-pointer.branch,
+      elim c.if-entry-pointer.branch [
+        | then-entry-pointer w ↦ rw (w.self-is, w.gone-is, w.left-is) (thinning_kept inv.2 _ more w.if-entry-pointer.true)
+        | else-entry-pointer w ↦ rw (w.self-is, w.gone-is, w.left-is, w.used_up-gone.ensures) (thinning_out inv.2 _ more w.if-entry-pointer.false)
+      ],
+      elim c.if-entry-pointer.branch [ then-entry-pointer w ↦ rw w.self-is inv.3 | else-entry-pointer w ↦ rw w.self-is inv.3 ],
     )
 
 pub loop-left-init : goal.loop-left-init
