@@ -21,7 +21,6 @@ returns c = λ h. record {
       ◂ c.number.ensures
       ◂ given;
   ready = c.number.ensures.ready;
-
 }
 
 pub number-at-requires : goal.number-at-requires

@@ -20,7 +20,6 @@ returns c = λ more. record {
       ◂ c.number.ensures
       ◂ given;
   ready = c.number.ensures.ready;
-
 }
 
 pub number-at-requires-2 : goal.number-at-requires-2

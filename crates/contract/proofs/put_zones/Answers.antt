@@ -19,7 +19,6 @@ returns c = λ n h. record {
       ◂ c.number.ensures
       ◂ given;
   ready = c.number.ensures.ready;
-
 }
 
 pub number-at-requires : goal.number-at-requires

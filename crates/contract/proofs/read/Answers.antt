@@ -1,7 +1,7 @@
 use Prim.Native.Nat.{ℕ}
 use mathlib.Core.List.{◌++◌}
 use mathlib.Core.Path.{sym, ap, ◌∙◌}
-use borrow.Author.Tests.{eq-eqb, ne_eqb, not-true, not-false}
+use borrow.Author.Tests.{eq-eqb, ne_eqb}
 use Rattle.bits.specs.Bits.{cut, spread, cleared}
 use Rattle.records.specs.Inner.Met.{met}
 use Rattle.records.proofs.Answering.{eight_words}
@@ -14,15 +14,15 @@ pub returns-then-bytes-ne-BYTES : goal.returns-then-bytes-ne-BYTES
 returns-then-bytes-ne-BYTES c = rw (ne_eqb _ _ c.if-bytes-ne-BYTES.true)
 
 pub returns-then-not-known : goal.returns-then-not-known
-returns-then-not-known c = rw (eq-eqb _ _ c.if-bytes-ne-BYTES.false, sym c.known.ensures ∙ not-true _ c.if-not-known.true)
+returns-then-not-known c = rw (eq-eqb _ _ c.if-bytes-ne-BYTES.false, sym c.known.ensures ∙ c.if-not-known.true)
 
 pub returns-then-last-ne0 : goal.returns-then-last-ne0
 returns-then-last-ne0 c =
     let head = c.take_head-fields.result.value in
-    let off = sym c.follow.ensures ∙ not-true _ c.if-not-follow.true in
-    let rest = rest_none c.words.new.1.0 c.args.kind head _ c.take_head-fields.ensures off in
+    let off = sym c.follow.ensures ∙ c.if-not-follow.true in
+    let rest = rest_none c.words.new.words c.args.kind head _ c.take_head-fields.ensures off in
     let same = rest.same c.if-last-ne0.true in
-    told_refused c.args.kind c.args.bytes.now _ _ rest.last c.if-bytes-ne-BYTES.false (sym c.known.ensures ∙ not-false _ c.if-not-known.false) c.words.ensures rest.taken
+    told_refused c.args.kind c.args.bytes.now _ _ rest.last c.if-bytes-ne-BYTES.false (sym c.known.ensures ∙ c.if-not-known.false) c.words.ensures rest.taken
     _ (c.refused.ensures ∙ ap (λ d. Refused (met d)) (sym same)) (rw same c.if-last-ne0.true)
 
 pub returns-then-not-follow : goal.returns-then-not-follow
@@ -30,9 +30,9 @@ returns-then-not-follow c =
     let bytes = c.args.bytes.now in
     let kind = c.args.kind in
     let head = c.take_head-fields.result.value in
-    let off = sym c.follow.ensures ∙ not-true _ c.if-not-follow.true in
-    let rest = rest_none c.words.new.1.0 kind head _ c.take_head-fields.ensures off in
-    told_read kind bytes _ _ rest.last c.if-bytes-ne-BYTES.false (sym c.known.ensures ∙ not-false _ c.if-not-known.false) c.words.ensures rest.taken
+    let off = sym c.follow.ensures ∙ c.if-not-follow.true in
+    let rest = rest_none c.words.new.words kind head _ c.take_head-fields.ensures off in
+    told_read kind bytes _ _ rest.last c.if-bytes-ne-BYTES.false (sym c.known.ensures ∙ c.if-not-known.false) c.words.ensures rest.taken
     _
     (c.whole.ensures (spread 8 bytes) c.words.ensures
     ∙ ap Read (sym (made_none kind head (cut 64 64 4 (cleared c.take_head-fields.result.last.at (spread 8 bytes))) rest.behind off))
@@ -62,7 +62,7 @@ returns-then-last-ne0-2 c =
     let kind = c.args.kind in
     let head = c.take_head-fields.result.value in
     let «data» = c.take_carnet-carnet.result.«data» in
-    told_refused kind c.args.bytes.now _ (head_numbers head ++ numbers42 «data») c.take_carnet-carnet.result.last c.if-bytes-ne-BYTES.false (sym c.known.ensures ∙ not-false _ c.if-not-known.false) c.words.ensures
+    told_refused kind c.args.bytes.now _ (head_numbers head ++ numbers42 «data») c.take_carnet-carnet.result.last c.if-bytes-ne-BYTES.false (sym c.known.ensures ∙ c.if-not-known.false) c.words.ensures
     (taken42 _ kind head _ _ c.take_head-fields.ensures «data» (eq-eqb _ _ c.if-kind-eq-CARNET.true) (c.take_carnet-carnet.ensures head))
     _ c.refused-then-last-ne0-2.ensures c.if-last-ne0-2.true
 
@@ -73,8 +73,8 @@ returns-then-kind-eq-CARNET c =
     let head = c.take_head-fields.result.value in
     let «data» = c.take_carnet-carnet.result.«data» in
     let carnet = eq-eqb _ _ c.if-kind-eq-CARNET.true in
-    let on = sym c.follow.ensures ∙ not-false _ c.if-not-follow.false in
-    told_read kind bytes _ (head_numbers head ++ numbers42 «data») c.take_carnet-carnet.result.last c.if-bytes-ne-BYTES.false (sym c.known.ensures ∙ not-false _ c.if-not-known.false) c.words.ensures
+    let on = sym c.follow.ensures ∙ c.if-not-follow.false in
+    told_read kind bytes _ (head_numbers head ++ numbers42 «data») c.take_carnet-carnet.result.last c.if-bytes-ne-BYTES.false (sym c.known.ensures ∙ c.if-not-known.false) c.words.ensures
     (taken42 _ kind head _ _ c.take_head-fields.ensures «data» carnet (c.take_carnet-carnet.ensures head))
     _ (c.whole-then-kind-eq-CARNET.ensures (spread 8 bytes) c.words.ensures ∙ ap Read (sym (made42 kind head (cut 64 64 4 (cleared c.take_carnet-carnet.result.last.at (spread 8 bytes))) «data» carnet on))) c.if-last-ne0-2.false
 
@@ -83,7 +83,7 @@ returns-then-last-ne0-3 c =
     let kind = c.args.kind in
     let head = c.take_head-fields.result.value in
     let «data» = c.take_urban-urban.result.«data» in
-    told_refused kind c.args.bytes.now _ (head_numbers head ++ numbers50 «data») c.take_urban-urban.result.last c.if-bytes-ne-BYTES.false (sym c.known.ensures ∙ not-false _ c.if-not-known.false) c.words.ensures
+    told_refused kind c.args.bytes.now _ (head_numbers head ++ numbers50 «data») c.take_urban-urban.result.last c.if-bytes-ne-BYTES.false (sym c.known.ensures ∙ c.if-not-known.false) c.words.ensures
     (taken50 _ kind head _ _ c.take_head-fields.ensures «data» (ne_eqb _ _ c.if-kind-eq-CARNET.false) (c.take_urban-urban.ensures head))
     _ c.refused-then-last-ne0-3.ensures c.if-last-ne0-3.true
 
@@ -94,7 +94,7 @@ returns c =
     let head = c.take_head-fields.result.value in
     let «data» = c.take_urban-urban.result.«data» in
     let urban = ne_eqb _ _ c.if-kind-eq-CARNET.false in
-    let on = sym c.follow.ensures ∙ not-false _ c.if-not-follow.false in
-    told_read kind bytes _ (head_numbers head ++ numbers50 «data») c.take_urban-urban.result.last c.if-bytes-ne-BYTES.false (sym c.known.ensures ∙ not-false _ c.if-not-known.false) c.words.ensures
+    let on = sym c.follow.ensures ∙ c.if-not-follow.false in
+    told_read kind bytes _ (head_numbers head ++ numbers50 «data») c.take_urban-urban.result.last c.if-bytes-ne-BYTES.false (sym c.known.ensures ∙ c.if-not-known.false) c.words.ensures
     (taken50 _ kind head _ _ c.take_head-fields.ensures «data» urban (c.take_urban-urban.ensures head))
     _ (c.whole-2.ensures (spread 8 bytes) c.words.ensures ∙ ap Read (sym (made50 kind head (cut 64 64 4 (cleared c.take_urban-urban.result.last.at (spread 8 bytes))) «data» urban on))) c.if-last-ne0-3.false

@@ -18,7 +18,6 @@ returns c = λ h. record {
       ▸ c.number-inhibition_end.ensures
       ▸ taken;
   ready = c.number-inhibition_end.ensures.ready;
-
 }
 
 pub number-pay_method-requires : goal.number-pay_method-requires

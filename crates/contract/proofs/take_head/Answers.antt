@@ -18,7 +18,6 @@ returns c = record {
       ▸ c.number-status.ensures
       ▸ taken;
   ready = c.number-status.ensures.ready;
-
 }
 
 pub number-provider-requires : goal.number-provider-requires

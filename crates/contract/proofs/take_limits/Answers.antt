@@ -14,7 +14,6 @@ returns c = λ n h. record {
       ▸ c.number-intermodal.ensures
       ▸ taken;
   ready = c.number-intermodal.ensures.ready;
-
 }
 
 pub number-weekly-requires : goal.number-weekly-requires

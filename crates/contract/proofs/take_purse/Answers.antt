@@ -18,7 +18,6 @@ returns c = λ n h. record {
       ▸ c.number-passengers.ensures
       ▸ taken;
   ready = c.number-passengers.ensures.ready;
-
 }
 
 pub number-token1-requires : goal.number-token1-requires

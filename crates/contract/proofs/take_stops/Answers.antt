@@ -15,7 +15,6 @@ returns c = λ n h. record {
       ▸ c.number-line2.ensures
       ▸ taken;
   ready = c.number-line2.ensures.ready;
-
 }
 
 pub number-stop1-requires : goal.number-stop1-requires

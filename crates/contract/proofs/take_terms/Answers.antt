@@ -18,7 +18,6 @@ returns c = λ h. record {
       ▸ c.number-via.ensures
       ▸ taken;
   ready = c.number-via.ensures.ready;
-
 }
 
 pub number-end_date-requires : goal.number-end_date-requires

@@ -16,7 +16,6 @@ returns c = λ n h. record {
       ▸ c.number-sections_left.ensures
       ▸ taken;
   ready = c.number-sections_left.ensures.ready;
-
 }
 
 pub number-period_end-requires : goal.number-period_end-requires

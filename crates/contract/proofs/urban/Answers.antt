@@ -7,4 +7,4 @@ pub returns-in-Carnet : goal.returns-in-Carnet
 returns-in-Carnet c = rw c.in-Carnet.is
 
 pub returns-in-Urban : goal.returns-in-Urban
-returns-in-Urban c = rw c.before.«data».given.1
+returns-in-Urban c = rw c.in-Urban.is
