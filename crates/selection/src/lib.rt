@@ -1,4 +1,6 @@
 // Which contract a gate uses, and the change of a priority.
+#![tactic(auto)]
+
 ghost use Rattle.std.specs.Prelude.{◌≡◌};
 ghost use Rattle.records.specs.Answer.{Written};
 ghost use Rattle.records.specs.Order.{record_at};
