@@ -1,7 +1,7 @@
 -- From each way out of loading's code to what loading means.
 use Prim.Native.Nat.{ℕ, suc, ◌*◌, ◌/◌, ◌≤◌, ◌<◌}
 use mathlib.Core.Bool.{Bool, true, false, not}
-use mathlib.Core.List.{List, ◌∷◌, map, Memᴰ}
+use mathlib.Core.List.{[], List, ◌∷◌, map, Memᴰ}
 use mathlib.Core.Path.{◌≡◌, refl, sym, ap, ◌∙◌}
 use mathlib.Core.Logic.{⊎_elim}
 use native.Mathlib.Omega.{arith}
@@ -38,6 +38,7 @@ use Rattle.loading.proofs.Storing.{end_accepted}
 
 -- An entry that has the pointer leaves.
 leaves : (e : Entry) (es : List Entry) (p : ℕ) → Memᴰ e es → e.pointer ≡ p → length (without p es) < length es
+leaves e [] p there own = elim there [ ]
 leaves e (f ∷ es) p (Memᴰ.head here) own =
     let same : f.pointer ≡ p = ap (λ (x : Entry). x.pointer) (sym here) ∙ own in
     rw (eq-eqb _ _ same) (omega (arith, length_without p es))

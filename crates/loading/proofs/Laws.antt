@@ -30,7 +30,7 @@ use Rattle.contract.specs.declared.Contract.{Contract}
 use Rattle.contract.specs.declared.ContractRead.{ContractRead}
 use Rattle.contract.specs.declared.ContractRead.TheVariants.{Read, Refused}
 use Rattle.loading.specs.Place.{erasable, place, afterwards}
-use Rattle.loading.specs.Loading.{Lent, Found, found, Outcome, contract_got, lengths, lengths_of, entry_fits, network_fits, limits, loaded, both_or_neither, new_entry, placed, blocking, placing, finding, settled, loading}
+use Rattle.loading.specs.Loading.{Lent, Found, found, Outcome, contract_got, lengths, lengths_of, entry_fits, limits, loaded, both_or_neither, new_entry, placed, blocking, placing, finding, settled, loading}
 use Rattle.loading.specs.declared.Order.{Order}
 use Rattle.loading.specs.declared.Loaded.{Loaded}
 use Rattle.loading.proofs.Placing.{Named, placed_free_or_erasable}
@@ -76,6 +76,7 @@ module _ (p : ℕ) (new file : List ℕ) (long : length new ≡ 29) (room : 29 *
 
 -- A listed entry's pointer is not free.
 listed_among : (es : List Entry) (e : Entry) → Memᴰ e es → among e.pointer (map (λ (x : Entry). x.pointer) es) ≡ true
+listed_among [] e there = elim there [ ]
 listed_among (x ∷ es) e (Memᴰ.head here) = rw (eq-eqb _ _ (ap (λ (y : Entry). y.pointer) (sym here)))
 listed_among (x ∷ es) e (Memᴰ.tail there) = go (eqb x.pointer e.pointer) (listed_among es e there)
   where
@@ -85,6 +86,7 @@ listed_among (x ∷ es) e (Memᴰ.tail there) = go (eqb x.pointer e.pointer) (li
 
 -- An entry of another pointer is left.
 left_over : (es : List Entry) (e : Entry) (p : ℕ) → Memᴰ e es → (e.pointer ≡ p → ⊥) → Memᴰ e (without p es)
+left_over [] e p there other = elim there [ ]
 left_over (x ∷ es) e p (Memᴰ.head here) other =
     let kept : eqb x.pointer p ≡ false = ne_eqb _ _ (λ same. other (ap (λ (y : Entry). y.pointer) here ∙ same)) in
     rw kept (Memᴰ.head here)

@@ -10,7 +10,6 @@ use lib.Dec.{eqb}
 use lib.ListN.{length, set, take, drop, length-set}
 use lib.Seq.{get_or-set_same, get_or-set_other}
 use borrow.Author.Tests.{eqb-true, eqb-false, eq-eqb, ne_eqb}
-use Rattle.rows.specs.Walk.{read}
 use Rattle.records.specs.Answer.{refusal}
 use Rattle.records.specs.Event.{event_told, event_read}
 use Rattle.records.proofs.Telling.{event_one}

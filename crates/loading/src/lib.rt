@@ -1,4 +1,6 @@
 // Where a new contract goes on a card, and writing it there.
+#![tactic(auto)]
+
 mod blocking;
 mod place;
 
