@@ -1,6 +1,6 @@
-use mathlib.Core.Path.{◌≡◌, refl, ap, ◌∙◌}
+use mathlib.Core.Path.{◌≡◌, ap, ◌∙◌}
 use native.Mathlib.Omega.{arith}
-use lib.ListN.{length, length-map}
+use lib.ListN.{length}
 use Rattle.bits.specs.Bits.{cut, spread}
 use Rattle.bits.proofs.Cutting.{length-spread}
 use Rattle.rows.proofs.Tables.{holder_rows}
@@ -12,32 +12,25 @@ use Rattle.holder.proofs.read_area.Goals as goal
 pub returns-then-last-ne0 : goal.returns-then-last-ne0
 returns-then-last-ne0 c =
     let bytes = c.args.bytes.now in
-    let words = c.area_words.new.1.0 in
-    let cuts : words ≡ cut 32 64 (length words) (spread 8 bytes) = rw c.area_words.auto.1.0 c.area_words.ensures in
+    let words = c.area_words.new.words in
+    let cuts : words ≡ cut 32 64 (length words) (spread 8 bytes) = rw c.area_words.auto.words c.area_words.ensures in
     c.refused.ensures ∙ rw c.met.ensures (area_refused _ _ _ bytes words _ _ (omega (arith, holder_rows)) c.requires cuts c.take_fields-fields.ensures c.if-last-ne0.true)
-
-pub take_area-requires : goal.take_area-requires
-take_area-requires c =
-    let long = c.area_words.auto.words in
-    let few = area_room _ c.requires in
-    let ready = c.take_fields-fields.ensures.ready in
-    ((ready.within, (ready.covered, (omega arith, (omega arith, omega arith)))), refl)
 
 pub returns : goal.returns
 returns c =
     let bytes = c.args.bytes.now in
-    let words = c.area_words.new.1.0 in
-    let cuts : words ≡ cut 32 64 (length words) (spread 8 bytes) = rw c.area_words.auto.1.0 c.area_words.ensures in
+    let words = c.area_words.new.words in
+    let cuts : words ≡ cut 32 64 (length words) (spread 8 bytes) = rw c.area_words.auto.words c.area_words.ensures in
     let left = c.take_area.ensures (spread 8 bytes) (length-spread 8 bytes) cuts in
     read_back
     (record {
       surname = search rules;
       forename = search rules;
-      birth_place = let own = c.take_fields-fields.type-inv.1.1.0.1.1.1.1.1.1.1.1.0 in search rules;
-      birth_name = let own = c.take_fields-fields.type-inv.1.1.0.1.1.1.1.1.1.1.1.1.0 in search rules;
+      birth_place = search rules;
+      birth_name = search rules;
       margin = ap length left;
     })
-    (simp length-map at c.take_fields-fields.type-inv.1.1.0.1.1.1.1.1.1.1.1.1.1.1.1.1.1.0.1.0.1)
+    (search rules)
     ∙ area_read _ _ _ bytes words _ _ (omega (arith, holder_rows)) c.requires cuts c.take_fields-fields.ensures c.if-last-ne0.false left
 
 pub overflow_cast-end : goal.overflow_cast-end

@@ -10,12 +10,12 @@ returns c =
       takes =
           c.number-bitmap.ensures
           ▸ c.number-name.ensures
-          ▸ letters_took 17 c.text-c.auto.1.1.1.1.0 c.text-c.ensures
-          ▸ letters_took 17 c.text-c-2.auto.1.1.1.1.0 c.text-c-2.ensures
+          ▸ letters_took 17 c.text-c.auto.letters c.text-c.ensures
+          ▸ letters_took 17 c.text-c-2.auto.letters c.text-c-2.ensures
           ▸ c.number-birth.ensures
           ▸ c.number-date.ensures
-          ▸ letters_took 23 c.text-c-3.auto.1.1.1.1.0 c.text-c-3.ensures
-          ▸ letters_took 17 c.text-last.auto.1.1.1.1.0 c.text-last.ensures
+          ▸ letters_took 23 c.text-c-3.auto.letters c.text-c-3.ensures
+          ▸ letters_took 17 c.text-last.auto.letters c.text-last.ensures
           ▸ taken;
       ready = c.text-last.ensures.ready;
     }

@@ -7,22 +7,18 @@ use Rattle.records.proofs.Answering.{area_unput, area_written, area_room}
 use borrow.Author.Rules.{rules}
 use Rattle.holder.proofs.write_area.Goals as goal
 
--- The margin is 15 words.
-fifteen : (s : goal.Start) → length s.args.h.margin ≡ 15
-fifteen s = search rules
-
 pub returns-then-last-ne0 : goal.returns-then-last-ne0
 unfolding holder
 returns-then-last-ne0 c = rw c.met.ensures (area_unput holder _ _ _ _ _ _ _ (omega (arith, holder_rows)) refl refl c.requires c.put_fields-last.ensures.puts c.if-last-ne0.true)
 
 pub put_area-end-requires : goal.put_area-end-requires
 put_area-end-requires c =
-    let long : length c.put_fields-last.new.0 ≡ 31 = search rules in
-    (c.put_fields-last.ensures.ready, (c.if-last-ne0.false, (omega (arith, area_room _ c.requires), (fifteen c.before.before.before.before.before.before.before.before.before, omega arith))))
+    let long : length c.put_fields-last.new.draft ≡ 31 = search rules in
+    (c.put_fields-last.ensures.ready, (c.if-last-ne0.false, (omega (arith, area_room _ c.requires), (search rules, omega arith))))
 
 pub end-requires : goal.end-requires
 end-requires c =
-    let long : length c.put_fields-last.new.0 ≡ 31 = search rules in
+    let long : length c.put_fields-last.new.draft ≡ 31 = search rules in
     omega (arith, c.put_area-end.ensures.long, area_room _ c.requires)
 
 pub returns : goal.returns
@@ -41,4 +37,4 @@ pub put_fields-last-requires : goal.put_fields-last-requires
 put_fields-last-requires c = (search rules, omega (arith, area_room _ c.requires))
 
 pub slice_bounds-put_area-end-2 : goal.slice_bounds-put_area-end-2
-slice_bounds-put_area-end-2 c = let long = fifteen c.before.before.before.before.before.before.before.before.before in search rules
+slice_bounds-put_area-end-2 c = let long : length c.args.h.margin ≡ 15 = search rules in search rules
