@@ -9,7 +9,7 @@ use lib.Dec.{eqb}
 use lib.ListN.{length, get_or, take, drop, replicate, length-take}
 use lib.Pow.{pow_mono}
 use borrow.Author.Tests.{eq-eqb, eqb-true}
-use Rattle.bits.specs.Bits.{number, spread, cut, leading}
+use Rattle.bits.specs.Bits.{spread, cut, leading}
 use Rattle.bits.proofs.Spelling.{number_lt}
 use Rattle.bits.proofs.Cutting.{length-spread}
 use Rattle.rows.specs.Row.{pick}

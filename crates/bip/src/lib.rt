@@ -1,4 +1,6 @@
 // The contract record of the neighbouring region's BIP cards: 29 bytes, thirteen fields at fixed offsets, high byte first.
+#![tactic(auto)]
+
 ghost use Rattle.std.specs.Prelude.{◌≡◌, [], ◌*◌, ◌≤◌, length};
 ghost use Rattle.bits.specs.Bits.{bit};
 ghost use Rattle.rows.specs.Inner.Line.{start, Given};

@@ -1,4 +1,6 @@
 // Contract, of type 42h or 50h.
+#![tactic(auto)]
+
 ghost use Rattle.std.specs.Prelude.{◌≡◌, Bool, List, [], ◌∷◌, ◌++◌, ℕ, length, take, drop};
 ghost use Rattle.rows.specs.Inner.Step.{Ready, Drafted};
 ghost use Rattle.rows.specs.Inner.Line.{start, Taken, Given};

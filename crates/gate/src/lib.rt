@@ -1,4 +1,6 @@
 // Gate writes. A gate can only raise bits of a record: here are applying, finding and joining such writes.
+#![tactic(auto)]
+
 ghost use Rattle.std.specs.Prelude.{◌≡◌, List, ℕ, ◌+◌, ◌*◌, ◌≤◌, length, take, drop};
 ghost use Rattle.bits.specs.Bits.{spread, leading, join as joined};
 ghost use Rattle.gate.specs.Writes.{applying, finding, joining, applied, only, writes_of};

@@ -1,10 +1,10 @@
 -- What is known of a contract list that was read: its entries keep the rule of lists.
 use Prim.Native.Nat.{ℕ, zero, suc, ◌+◌, ◌/◌, ◌≤◌, ◌<◌}
 use mathlib.Core.List.{List, [], ◌∷◌, ◌++◌, map, append_assoc, append-nil, Memᴰ}
-use mathlib.Core.Bool.{Bool, true, false, ◌||◌, not, or-false, true≢false}
+use mathlib.Core.Bool.{Bool, true, false, ◌||◌, or-false, true≢false}
 use mathlib.Core.Path.{◌≡◌, refl, sym, ap, ◌∙◌}
 use native.Mathlib.Omega.{arith}
-use lib.Dec.{eqb, ltb, leb}
+use lib.Dec.{eqb, ltb}
 use lib.ListN.{length, get_or, take, length-take}
 use lib.Seq.{get_or-take}
 use borrow.Author.Tests.{eqb-true, eqb-false, leb-true, le-leb, eq-eqb, ltb-false, not-true, ne_eqb}
@@ -233,6 +233,7 @@ room_left n q ps kept low high new =
 module _ (n : ℕ) where
   not_before : (before : List ℕ) (es : List Entry) (e : Entry) → Apart n before (map (λ (x : Entry). x.pointer) es) → Memᴰ e es
       → among e.pointer before ≡ false
+  not_before before [] e rule there = elim there [ ]
   not_before before (x ∷ es) e (low, high, new, rest) (Memᴰ.head here) = rw here new
   not_before before (x ∷ es) e (low, high, new, rest) (Memᴰ.tail there) =
       (neither (among e.pointer before) (eqb x.pointer e.pointer)
@@ -247,6 +248,7 @@ module _ (n : ℕ) where
 
   pub one_each : (before : List ℕ) (es : List Entry) (e f : Entry) → Apart n before (map (λ (x : Entry). x.pointer) es) → Memᴰ e es → Memᴰ f es
       → e.pointer ≡ f.pointer → e ≡ f
+  one_each before [] e f rule there other same = elim there [ ]
   one_each before (x ∷ es) e f rule (Memᴰ.head a) (Memᴰ.head b) same = a ∙ sym b
   one_each before (x ∷ es) e f (low, high, new, rest) (Memᴰ.head a) (Memᴰ.tail b) same =
       absurd (later_other before x.pointer es f rest b (rw (← a) same))

@@ -1,0 +1,32 @@
+use mathlib.Core.Path.{◌≡◌, ◌∙◌}
+use native.Mathlib.Omega.{arith}
+use lib.ListN.{length}
+use Rattle.rows.specs.Table.BestContracts.{contract_list}
+use Rattle.rows.specs.Inner.Line.{given, ◌◂◌}
+use Rattle.rows.proofs.Running.{puts_long}
+use Rattle.lists.proofs.Listing.{length_of_map}
+use Rattle.lists.proofs.Lines.{putting_more, putting_all}
+use borrow.Author.Rules.{rules}
+use Rattle.lists.proofs.list.put_list.Goals as goal
+
+pub loop-k-init : goal.loop-k-init
+loop-k-init c = record { upto = omega arith; ready = c.at_most-head.ensures.ready; puts = given }
+
+pub put_entry-c-requires : goal.put_entry-c-requires
+put_entry-c-requires c = c.loop-k.invariant.ready
+
+pub loop-k-preserved : goal.loop-k-preserved
+loop-k-preserved c =
+    let l = c.args.list in
+    let eight : length l.entries ≡ 8 = search (rules, length_of_map) in
+    putting_more eight c.loop-k.invariant _ _ _ c.loop-k-test.true c.put_entry-c.ensures
+
+pub shape_of-draft : goal.shape_of-draft
+shape_of-draft c = puts_long c.loop-k.invariant.puts ∙ c.at_most-head.auto.draft
+
+pub returns : goal.returns
+unfolding contract_list
+returns c =
+    let l = c.args.list in
+    let eight : length l.entries ≡ 8 = search (rules, length_of_map) in
+    c.at_most-head.ensures ◂ putting_all eight c.loop-k.invariant c.loop-k-test.false
