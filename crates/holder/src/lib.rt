@@ -1,4 +1,6 @@
 // Holder, in an area of 1 to 4 records handed over together.
+#![tactic(auto)]
+
 ghost use Rattle.std.specs.Prelude.{◌≡◌, [], ◌∷◌, true, ◌+◌, ◌≤◌, length};
 ghost use Rattle.std.proofs.Math.Seq.{paste};
 ghost use Rattle.rows.specs.Inner.Step.{Ready, Took, Drafted, Gave};

@@ -5,7 +5,7 @@ use lib.Seq.{drop-append_seam, take-nil, drop-nil}
 use Rattle.rows.specs.Row.{Row, Cond, always, bit, above, pick, told, holds, broken}
 use Rattle.rows.specs.declared.Rule.{Rule}
 use Rattle.rows.specs.declared.Rule.TheVariants.{Any, Most, Tariff, NoSecond}
-use Rattle.rows.specs.Walk.{Outcome, done, refused, total, boxes_of, exceeds, fault, numbers, walk, boxes_at, slots}
+use Rattle.rows.specs.Walk.{Outcome, done, refused, total, boxes_of, exceeds, numbers, walk, boxes_at, slots}
 use Rattle.rows.proofs.Boxes.{length-numbers, numbers_fit}
 use Rattle.rows.proofs.Margins.{both}
 use Rattle.rows.proofs.Stepping.{total_none, broken_none}

@@ -1,5 +1,7 @@
 // The second reader, for type approval: it takes one bit after another, and knows the layouts as rows of widths. Each reading answers
 // what the working reader answers.
+#![tactic(auto)]
+
 ghost use Rattle.std.specs.Prelude.{◌≡◌, length};
 ghost use Rattle.records.specs.Environment.{environment_told, environment_read};
 ghost use Rattle.records.specs.Event.{event_told, event_read};

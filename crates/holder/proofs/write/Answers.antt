@@ -1,0 +1,14 @@
+use mathlib.Core.Bool.{false}
+use mathlib.Core.Path.{◌≡◌}
+use lib.ListN.{length}
+use Rattle.records.specs.Answer.{area_length}
+use Rattle.records.proofs.Answering.{area_unwritten}
+use Rattle.holder.proofs.write.Goals as goal
+
+pub returns : goal.returns
+returns c =
+    let short : area_length (length c.args.bytes.now) ≡ false = cc in
+    area_unwritten _ _ _ _ short
+
+pub write_area-requires : goal.write_area-requires
+write_area-requires c = cc

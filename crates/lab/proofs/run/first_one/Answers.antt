@@ -1,0 +1,29 @@
+use Rattle.std.proofs.Common.{◌≡◌, ℕ, ◌*◌, List, get_or, ◌+◌, ◌<◌, ◌≤◌, false, ◌∷◌, length, drop, add-one, arith, drop_of_length-le, drop-cons}
+use Rattle.bits.specs.Bits.{spread}
+use Rattle.bits.proofs.Cutting.{length-spread}
+use Rattle.bits.proofs.Clearing.{leading-cleared}
+use Rattle.lab.proofs.run.first_one.Goals as goal
+
+pub loop-place-init : goal.loop-place-init
+loop-place-init c = leading-cleared _ _
+
+-- The bit at this place, and those behind it.
+ahead : (bytes : List ℕ) (place : ℕ) → place < 8 * length bytes →
+    let bits = spread 8 bytes in
+    drop place bits ≡ get_or bits place false ∷ drop (place + 1) bits
+ahead bytes place h =
+    let bits = spread 8 bytes in
+    let inside : place < length bits = rw length-spread (omega arith) in
+    rw (add-one, drop-cons bits place false inside)
+
+pub returns-then-bit_at : goal.returns-then-bit_at
+returns-then-bit_at c = rw (c.loop-place.invariant, ahead c.args.bytes.now c.loop-place.place (omega arith), ← c.bit_at.ensures, c.if-bit_at.true) (omega arith)
+
+pub loop-place-preserved : goal.loop-place-preserved
+loop-place-preserved c = rw (c.loop-place.invariant, ahead c.args.bytes.now c.loop-place.place (omega arith), ← c.bit_at.ensures, c.if-bit_at.false) (omega arith)
+
+pub returns : goal.returns
+returns c =
+    let bits = spread 8 c.args.bytes.now in
+    let past : length bits ≤ c.loop-place.place = rw length-spread (omega arith) in
+    omega (arith, rw (drop_of_length-le bits past) at c.loop-place.invariant)

@@ -1,0 +1,17 @@
+use Rattle.std.proofs.Common.{◌+◌, ◌*◌, sym, refl, ◌∙◌, rules}
+use Rattle.bits.specs.Bits.{spread, cleared}
+use Rattle.bits.proofs.Fronts.{part_padded}
+use Rattle.bits.proofs.Cutting.{filled_none, filled_more, filled_all}
+use Rattle.lab.proofs.run.margin.Goals as goal
+
+pub loop-k-init : goal.loop-k-init
+loop-k-init c = (search rules, filled_none 64 64 _ _ _ refl)
+
+pub loop-k-preserved : goal.loop-k-preserved
+loop-k-preserved c =
+    let a = c.args in
+    let bits = cleared a.end (spread 8 a.bytes.now) in
+    (search rules, filled_more (c.loop-k.k + 1) refl c.loop-k.invariant.1 (search rules) (c.word.ensures ∙ sym (part_padded 64 (64 * c.loop-k.k) bits)))
+
+pub returns : goal.returns
+returns c = filled_all c.loop-k.invariant.1 (search rules)
