@@ -1,11 +1,11 @@
 -- The ways out of a passage.
 use Prim.Native.Nat.{ℕ, ◌/◌, ◌≤◌}
-use mathlib.Core.Bool.{Bool, true, false, not}
+use mathlib.Core.Bool.{Bool, true, false}
 use mathlib.Core.List.{List}
 use mathlib.Core.Path.{◌≡◌, sym, ap, ◌∙◌}
 use native.Mathlib.Omega.{arith}
 use lib.ListN.{length}
-use borrow.Author.Tests.{eq-eqb, ne_eqb, not-true, not-false, leb-true}
+use borrow.Author.Tests.{eq-eqb, ne_eqb, leb-true}
 use Rattle.rows.proofs.Margins.{both}
 use Rattle.records.specs.Answer.{Written, refusal}
 use Rattle.records.specs.Event.{event_written}
@@ -38,23 +38,23 @@ within_limits p records all =
     record { some = leb-true _ _ some; few = leb-true _ _ few; minute = leb-true _ _ minute; code = leb-true _ _ code; provider = leb-true _ _ provider }
 
 -- A journal within the limits has a record.
-pub some_record : (p : Passage) (bytes : ℕ) {b : Bool} → b ≡ limits p (bytes / 29) → not b ≡ false → 29 ≤ bytes
-some_record p bytes within inside = omega (arith, (within_limits p (bytes / 29) (sym within ∙ not-false _ inside)).some)
+pub some_record : (p : Passage) (bytes : ℕ) {b : Bool} → b ≡ limits p (bytes / 29) → b ≡ true → 29 ≤ bytes
+some_record p bytes within inside = omega (arith, (within_limits p (bytes / 29) (sym within ∙ inside)).some)
 
 module _ (p : Passage) (list file journal : List ℕ) {a : Bool} (agrees : a ≡ lengths p (length list) (length file) (length journal)) where
-  pub wrong_lengths : {s : Selected} → not a ≡ true → s ≡ unselected (refusal 1 0) → unchanged s list journal ≡ passing p list file journal
+  pub wrong_lengths : {s : Selected} → a ≡ false → s ≡ unselected (refusal 1 0) → unchanged s list journal ≡ passing p list file journal
   unfolding passing chosen
-  wrong_lengths wrong is = rw (← agrees, not-true a wrong, is)
+  wrong_lengths wrong is = rw (← agrees, wrong, is)
 
-  module _ (right : not a ≡ false) {b : Bool} (within : b ≡ limits p (length journal / 29)) where
-    pub past_limits : {s : Selected} → not b ≡ true → s ≡ unselected (refusal 11 0) → unchanged s list journal ≡ passing p list file journal
+  module _ (right : a ≡ true) {b : Bool} (within : b ≡ limits p (length journal / 29)) where
+    pub past_limits : {s : Selected} → b ≡ false → s ≡ unselected (refusal 11 0) → unchanged s list journal ≡ passing p list file journal
     unfolding passing chosen
-    past_limits past is = rw (← agrees, not-false a right, ← within, not-true b past, is)
+    past_limits past is = rw (← agrees, right, ← within, past, is)
 
-    module _ (inside : not b ≡ false) {s : Selected} (chosen : s ≡ selected list file p.n p.c p.day p.operator) where
+    module _ (inside : b ≡ true) {s : Selected} (chosen : s ≡ selected list file p.n p.c p.day p.operator) where
       pub not_chosen : (s.refusal.number ≡ 0 → ⊥) → unchanged s list journal ≡ passing p list file journal
       unfolding passing chosen
-      not_chosen refused = rw (← agrees, not-false a right, ← within, not-false b inside, ← chosen, ne_eqb _ _ refused)
+      not_chosen refused = rw (← agrees, right, ← within, inside, ← chosen, ne_eqb _ _ refused)
 
       pub passed : s.refusal.number ≡ 0 → {code : ℕ} {r : Refusal} {after past : List ℕ} {e : Event} → code ≡ used s.priority
           → record { answer = r; bytes = after } ≡ changing list p.n p.c s.position code
@@ -63,4 +63,4 @@ module _ (p : Passage) (list file journal : List ℕ) {a : Bool} (agrees : a ≡
       unfolding passing chosen
       passed found {code} {r} {after} {past} {e} recoded changed made put =
           let bytes : after ≡ (changing list p.n p.c s.position code).bytes = ap (λ (w : Written). w.bytes) changed in
-          rw (← agrees, not-false a right, ← within, not-false b inside, ← chosen, eq-eqb _ _ found, bytes, recoded, put, made)
+          rw (← agrees, right, ← within, inside, ← chosen, eq-eqb _ _ found, bytes, recoded, put, made)

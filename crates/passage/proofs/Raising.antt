@@ -16,7 +16,7 @@ use Rattle.rows.specs.Change.{with_box}
 use Rattle.rows.proofs.Boxes.{join-append}
 use Rattle.records.specs.Answer.{Written, refusal, accepted}
 use Rattle.lists.specs.List.{entry_of, entry_at, got_list, list_read, list_written}
-use Rattle.lists.specs.Entries.{counted, recoded, recoded_at, with_priority, priority_place}
+use Rattle.lists.specs.Entries.{counted, recoded_at, with_priority, priority_place}
 use Rattle.lists.specs.Listing.{read_list}
 use Rattle.lists.specs.Tally.{revalued, at_pointer}
 use Rattle.lists.specs.declared.list.Entry.{Entry}

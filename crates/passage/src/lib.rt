@@ -1,4 +1,6 @@
 // A passage at a gate, in one call: the contract that the gate uses, its priority after use, and the event in the journal.
+#![tactic(auto)]
+
 ghost use Rattle.std.specs.Prelude.{◌≡◌, ◌≤◌, length};
 ghost use Rattle.records.specs.Event.{event_written};
 ghost use Rattle.records.specs.Order.{record_from};
