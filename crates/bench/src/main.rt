@@ -1,5 +1,7 @@
 // Calls one operation of the library after the other on units from standard input, and writes one number that every answer goes
 // into: the program that ./bench measures. docs/BENCHMARK.md says how the input is laid out.
+#![tactic(auto)]
+
 mod digest;
 mod units;
 

@@ -1,4 +1,6 @@
 // Decodes contract list records to standard output: a line of 58 digits each, for cards of four contracts, each with a counter.
+#![tactic(auto)]
+
 ghost use Rattle.std.specs.Prelude.{◌≤◌, ◌<◌, length};
 
 use lists::list;

@@ -1,5 +1,7 @@
 // Follows a record bit by bit with the second reader, and says what each bit makes of its state. Standard input is the name of a
 // structure, a space, and the record in hexadecimal digits.
+#![tactic(auto)]
+
 mod say;
 
 use lab::state::State;

@@ -1,4 +1,6 @@
 // The library's operations over lines of text: a request a line on standard input, an answer a line on standard output.
+#![tactic(auto)]
+
 mod requests;
 
 use lines::answer;

@@ -1,4 +1,6 @@
 // Draws the layout sheet from the tables of the second reader: each structure's fields in card order.
+#![tactic(auto)]
+
 mod contracts;
 mod draw;
 mod holders;
