@@ -1,9 +1,11 @@
 // Decodes contract list records to standard output: a line of 58 digits each, for cards of four contracts, each with a counter.
+#![tactic(auto)]
+
 ghost use Rattle.std.specs.Prelude.{◌≤◌, ◌<◌, length};
 
-use libc::STDOUT_FILENO;
 use lists::list;
 use lists::list::{ContractList, Entry};
+use std::io;
 
 // The most input that is taken.
 pub const MOST: usize = 64000;
@@ -14,16 +16,16 @@ const N: u32 = 4;
 const C: u32 = 4;
 
 // One answer for each line; for too long an input, one line that says so.
-pub fn dump(input: &[u8]) {
+pub fn dump(rt: &impl Print, input: &[u8]) -> io::Result<()> {
     if MOST < input.len() {
-        say_line(0, 1, 0);
+        say_line(rt, 0, 1, 0)
     } else {
-        dump_lines(input);
+        dump_lines(rt, input)
     }
 }
 
 // The last line may lack its line feed.
-fn dump_lines(input: &[u8])
+fn dump_lines(rt: &impl Print, input: &[u8]) -> io::Result<()>
     requires { length input.now ≤ 64000 }
 {
     let mut from = 0;
@@ -31,9 +33,10 @@ fn dump_lines(input: &[u8])
     while from < input.len() {
         let end = line_end(input, from);
         number += 1;
-        dump_line(&input[from..end], number);
+        dump_line(rt, &input[from..end], number)?;
         from = end + 1;
     }
+    Ok(())
 }
 
 // The place of the next line feed, or the end.
@@ -52,67 +55,68 @@ fn line_end(input: &[u8], from: usize) -> usize
 }
 
 // A line that is no record is refused as one of the wrong length.
-fn dump_line(line: &[u8], number: u32) {
+fn dump_line(rt: &impl Print, line: &[u8], number: u32) -> io::Result<()> {
     let mut bytes = [0u8; 29];
     if text::bytes(line, &mut bytes) {
         let read = list::read(&bytes, N, C);
         let refusal = read.refusal;
         let list = read.list;
-        say_line(number, refusal.number, list.count);
-        say_entries(list);
+        say_line(rt, number, refusal.number, list.count)?;
+        say_entries(rt, list)
     } else {
-        say_line(number, 1, 0);
+        say_line(rt, number, 1, 0)
     }
 }
 
-fn say_line(number: u32, refusal: u32, count: u32) {
-    say(number);
-    say_space();
-    say(refusal);
-    say_space();
-    say(count);
-    say_end();
+fn say_line(rt: &impl Print, number: u32, refusal: u32, count: u32) -> io::Result<()> {
+    say(rt, number)?;
+    say_space(rt)?;
+    say(rt, refusal)?;
+    say_space(rt)?;
+    say(rt, count)?;
+    say_end(rt)
 }
 
 // The counted entries: position, network or -, key, type, priority, pointer.
-fn say_entries(list: ContractList) {
+fn say_entries(rt: &impl Print, list: ContractList) -> io::Result<()> {
     let mut i = 0;
     while i < 8 {
         let entry = list.entries[i];
         if (i as u32) < list.count {
-            say_entry(i as u32 + 1, entry);
+            say_entry(rt, i as u32 + 1, entry)?;
         }
         i += 1;
     }
+    Ok(())
 }
 
-fn say_entry(position: u32, entry: Entry) {
-    say(position);
-    say_space();
+fn say_entry(rt: &impl Print, position: u32, entry: Entry) -> io::Result<()> {
+    say(rt, position)?;
+    say_space(rt)?;
     if entry.bitmap % 2 == 1 {
-        say(entry.network);
+        say(rt, entry.network)?;
     } else {
-        io::write_all(STDOUT_FILENO, b"-");
+        print!(rt; "-")?;
     }
-    say_space();
-    say(entry.key);
-    say_space();
-    say(entry.kind);
-    say_space();
-    say(entry.priority);
-    say_space();
-    say(entry.pointer);
-    say_end();
+    say_space(rt)?;
+    say(rt, entry.key)?;
+    say_space(rt)?;
+    say(rt, entry.kind)?;
+    say_space(rt)?;
+    say(rt, entry.priority)?;
+    say_space(rt)?;
+    say(rt, entry.pointer)?;
+    say_end(rt)
 }
 
-fn say(number: u32) {
-    io::print_decimal(STDOUT_FILENO, number as u64);
+fn say(rt: &impl Print, number: u32) -> io::Result<()> {
+    print!(rt; "{number}")
 }
 
-fn say_space() {
-    io::write_all(STDOUT_FILENO, b" ");
+fn say_space(rt: &impl Print) -> io::Result<()> {
+    print!(rt; " ")
 }
 
-fn say_end() {
-    io::write_all(STDOUT_FILENO, b"\n");
+fn say_end(rt: &impl Print) -> io::Result<()> {
+    print!(rt; "\n")
 }

@@ -1,7 +1,10 @@
 // Decodes the contract list records on standard input.
+#![tactic(auto)]
 
-fn main() {
-    let mut input = [0u8; 64001];
-    let got = io::read_full(0, &mut input);
-    decode::dump(&input[..got]);
+use std::io;
+
+fn main(rt: HostRuntime) -> io::Result<()> {
+    let mut bytes = [0u8; 64001];
+    let got = input::read_full(&mut rt.stdin(), &mut bytes)?;
+    decode::dump(&rt, &bytes[..got])
 }

@@ -3,92 +3,95 @@ ghost use Rattle.std.specs.Prelude.{◌<◌, length};
 
 use lab::state::State;
 use lab::{row, run};
-use libc::STDOUT_FILENO;
+use std::io;
 use std::num::wrapping_add_u32;
 
-fn text(text: &[u8]) {
-    io::write_all(STDOUT_FILENO, text);
+fn text(rt: &impl Print, text: &[u8]) -> io::Result<()> {
+    rt.write_all(text)
 }
 
-fn number(number: u64) {
-    io::print_decimal(STDOUT_FILENO, number);
+fn number(rt: &impl Print, number: u64) -> io::Result<()> {
+    print!(rt; "{number}")
 }
 
-pub fn usage() {
+pub fn usage(rt: &impl Print) -> io::Result<()> {
     text(
+        rt,
         b"wanted: environment, holder, event, special, list, contract.42 or contract.50, a space, and the record's digits\n",
-    );
+    )
 }
 
 // A number of several.
-fn next_number(n: u32) {
-    text(b" ");
-    number(n as u64);
+fn next_number(rt: &impl Print, n: u32) -> io::Result<()> {
+    text(rt, b" ")?;
+    number(rt, n as u64)
 }
 
 // Before the first bit.
-pub fn begin(state: State) {
-    text(b"room ");
-    number(state.room as u64);
-    text(b", most ");
-    number(state.most as u64);
-    text(b"; first is");
-    field(state);
-    text(b"\n");
+pub fn begin(rt: &impl Print, state: State) -> io::Result<()> {
+    text(rt, b"room ")?;
+    number(rt, state.room as u64)?;
+    text(rt, b", most ")?;
+    number(rt, state.most as u64)?;
+    text(rt, b"; first is")?;
+    field(rt, state)?;
+    text(rt, b"\n")
 }
 
 // A bit, the numbers of its field with it, and behind the field's last bit the next one that is there.
-pub fn step(rows: &[u64], before: State, one: bool, after: State)
+pub fn step(rt: &impl Print, rows: &[u64], before: State, one: bool, after: State) -> io::Result<()>
     requires { before.row < length rows.now }
 {
     let k = before.row;
-    text(b"bit ");
-    number(before.at as u64);
+    text(rt, b"bit ")?;
+    number(rt, before.at as u64)?;
     if one {
-        text(b" is 1: field ");
+        text(rt, b" is 1: field ")?;
     } else {
-        text(b" is 0: field ");
+        text(rt, b" is 0: field ")?;
     }
-    number(k as u64);
-    text(b" is now");
+    number(rt, k as u64)?;
+    text(rt, b" is now")?;
     numbers(
+        rt,
         rows[k],
         before.first,
         before.start,
         before.at,
         &after.numbers,
-    );
+    )?;
     if after.row == rows.len() {
-        text(b"; no field is left");
+        text(rt, b"; no field is left")?;
     } else if after.row != k {
-        text(b"; next is");
-        field(after);
+        text(rt, b"; next is")?;
+        field(rt, after)?;
     }
-    text(b"\n");
+    text(rt, b"\n")
 }
 
 // The field that a state is in.
-fn field(state: State) {
-    text(b" field ");
-    number(state.row as u64);
-    text(b", from bit ");
-    number(state.start as u64);
-    text(b" and slot ");
-    number(state.first as u64);
+fn field(rt: &impl Print, state: State) -> io::Result<()> {
+    text(rt, b" field ")?;
+    number(rt, state.row as u64)?;
+    text(rt, b", from bit ")?;
+    number(rt, state.start as u64)?;
+    text(rt, b" and slot ")?;
+    number(rt, state.first as u64)
 }
 
 // The numbers of a row's field; of a text only the letters up to the bit.
-fn numbers(row: u64, first: u32, start: u32, at: u32, numbers: &[u32]) {
+fn numbers(rt: &impl Print, row: u64, first: u32, start: u32, at: u32, numbers: &[u32]) -> io::Result<()> {
     let pace = pace(row);
     let mut slot = first as usize;
     let mut place = start;
     let mut left = row::boxes(row);
     while slot < numbers.len() && 0 < left && place <= at {
-        next_number(numbers[slot]);
+        next_number(rt, numbers[slot])?;
         slot += 1;
         place = wrapping_add_u32(place, pace);
         left -= 1;
     }
+    Ok(())
 }
 
 // How many bits later the next number of a field is said.
@@ -99,32 +102,32 @@ fn pace(row: u64) -> u32 {
     row::width(row) as u32
 }
 
-pub fn refused(state: State) {
-    text(b"refused with ");
-    number(state.why as u64);
-    text(b", place ");
-    number(state.start as u64);
-    text(b", field ");
-    number(state.row as u64);
-    text(b"\n");
+pub fn refused(rt: &impl Print, state: State) -> io::Result<()> {
+    text(rt, b"refused with ")?;
+    number(rt, state.why as u64)?;
+    text(rt, b", place ")?;
+    number(rt, state.start as u64)?;
+    text(rt, b", field ")?;
+    number(rt, state.row as u64)?;
+    text(rt, b"\n")
 }
 
 // The margin, from a place on.
-pub fn margin(bytes: &[u8], from: u32, room: u32) {
-    text(b"margin from bit ");
-    number(from as u64);
-    text(b", its ones:");
+pub fn margin(rt: &impl Print, bytes: &[u8], from: u32, room: u32) -> io::Result<()> {
+    text(rt, b"margin from bit ")?;
+    number(rt, from as u64)?;
+    text(rt, b", its ones:")?;
     let mut none = true;
     let mut place = from;
     while place < room {
         if run::bit_at(bytes, place) {
-            next_number(place);
+            next_number(rt, place)?;
             none = false;
         }
         place += 1;
     }
     if none {
-        text(b" none");
+        text(rt, b" none")?;
     }
-    text(b"\n");
+    text(rt, b"\n")
 }

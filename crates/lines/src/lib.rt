@@ -1,4 +1,6 @@
 // Requests and answers as lines of text: the words of a line, those of an answer, and the requests on single records.
+#![tactic(auto)]
+
 pub mod answer;
 pub mod bips;
 pub mod contract_lists;

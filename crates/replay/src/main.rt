@@ -1,8 +1,11 @@
 // The library's operations over lines of text: a request a line on standard input, an answer a line on standard output.
+#![tactic(auto)]
+
 mod requests;
 
-use libc::{STDIN_FILENO, STDOUT_FILENO};
 use lines::answer;
+use std::io;
+use std::io::Read;
 
 // What is taken of the line that comes, and whether there may be more.
 #[derive(Clone, Copy)]
@@ -11,56 +14,56 @@ struct Input {
     more: bool,
 }
 
-fn main() {
+fn main(rt: HostRuntime) -> io::Result<()> {
     // one letter more than a request has, by which a longer line shows
     let mut space = [0u8; 8193];
     let line: &mut [u8] = &mut space;
-    let n = take_pieces(line);
+    let n = take_pieces(&rt, &mut rt.stdin(), line)?;
     if 0 < n {
-        reply(first(line, n));
+        reply(&rt, first(line, n))?;
     }
+    Ok(())
 }
 
 // How many letters the last line has, which lacks its line feed. A proved loop has to end, and nothing says that the input
 // does: so the pieces are counted down from a number that no run uses up.
-fn take_pieces(line: &mut [u8]) -> usize {
+fn take_pieces(rt: &impl Print, from: &mut impl Read, line: &mut [u8]) -> io::Result<usize> {
     let mut input = Input { n: 0, more: true };
     let mut pieces = u64::MAX;
     while 0 < pieces && input.more {
-        input = take_piece(line, input.n);
+        input = take_piece(rt, from, line, input.n)?;
         pieces -= 1;
     }
-    input.n
+    Ok(input.n)
 }
 
-fn take_piece(line: &mut [u8], n: usize) -> Input {
-    let mut piece = io::buffer();
-    let got = libc::read(STDIN_FILENO, &mut piece);
-    let count = io::count(got, &piece);
-    Input {
-        n: take_letters(&piece[..count], line, n),
+fn take_piece(rt: &impl Print, from: &mut impl Read, line: &mut [u8], n: usize) -> io::Result<Input> {
+    let mut piece = [0u8; 4096];
+    let count = from.read(&mut piece)?;
+    Ok(Input {
+        n: take_letters(rt, &piece[..count], line, n)?,
         more: 0 < count,
-    }
+    })
 }
 
 // How many letters the line has then that is not at its end yet.
-fn take_letters(piece: &[u8], line: &mut [u8], n: usize) -> usize {
+fn take_letters(rt: &impl Print, piece: &[u8], line: &mut [u8], n: usize) -> io::Result<usize> {
     let mut end = n;
     let mut i = 0;
     while i < piece.len() {
-        end = take_letter(line, end, piece[i]);
+        end = take_letter(rt, line, end, piece[i])?;
         i += 1;
     }
-    end
+    Ok(end)
 }
 
 // Replies to the line where it ends, and else keeps the letter.
-fn take_letter(line: &mut [u8], n: usize, letter: u8) -> usize {
+fn take_letter(rt: &impl Print, line: &mut [u8], n: usize, letter: u8) -> io::Result<usize> {
     if letter == b'\n' {
-        reply(first(line, n));
-        return 0;
+        reply(rt, first(line, n))?;
+        return Ok(0);
     }
-    answer::letter(line, n, letter)
+    Ok(answer::letter(line, n, letter))
 }
 
 // The first n letters, or all where there are fewer.
@@ -68,12 +71,12 @@ fn first<'a>(text: &'a [u8], n: usize) -> &'a [u8] {
     if n < text.len() { &text[..n] } else { text }
 }
 
-fn reply(line: &[u8]) {
+fn reply(rt: &impl Print, line: &[u8]) -> io::Result<()> {
     let mut space = [0u8; 16384];
     let out: &mut [u8] = &mut space;
     let answered = answer_to(line, out);
     let end = answer::letter(out, answered, b'\n');
-    io::write_all(STDOUT_FILENO, first(out, end));
+    rt.write_all(first(out, end))
 }
 
 fn answer_to(line: &[u8], out: &mut [u8]) -> usize {

@@ -1,88 +1,99 @@
 // The lines of the sheet.
 use lab::row;
-use libc::STDOUT_FILENO;
+use std::io;
 
-pub fn say(text: &[u8]) {
-    io::write_all(STDOUT_FILENO, text);
+pub fn say(rt: &impl Print, text: &[u8]) -> io::Result<()> {
+    rt.write_all(text)
 }
 
-fn say_number(number: u64) {
-    io::print_decimal(STDOUT_FILENO, number);
+fn say_number(rt: &impl Print, number: u64) -> io::Result<()> {
+    print!(rt; "{number}")
 }
 
 // The head of a structure's table.
-pub fn head(name: &[u8], fields: usize) {
-    say(b"\n## ");
-    say(name);
-    say(b": ");
-    say_number(fields as u64);
-    say(b" fields\n\n| field | name | bits | when it is there | rule |\n|---|---|---|---|---|\n");
+pub fn head(rt: &impl Print, name: &[u8], fields: usize) -> io::Result<()> {
+    say(rt, b"\n## ")?;
+    say(rt, name)?;
+    say(rt, b": ")?;
+    say_number(rt, fields as u64)?;
+    say(
+        rt,
+        b" fields\n\n| field | name | bits | when it is there | rule |\n|---|---|---|---|---|\n",
+    )
 }
 
 // A row's line.
-pub fn line(rows: &[u64], field: usize, name: &[u8]) {
-    say_field(field);
-    say(name);
-    say_row(rows, field);
+pub fn line(rt: &impl Print, rows: &[u64], field: usize, name: &[u8]) -> io::Result<()> {
+    say_field(rt, field)?;
+    say(rt, name)?;
+    say_row(rt, rows, field)
 }
 
 // The line of a row in one of several entries, which are counted from 1.
-pub fn entry_line(rows: &[u64], field: usize, name: &[u8], entry: usize) {
-    say_field(field);
-    say(name);
-    say(b" ");
-    say_number(entry as u64);
-    say_row(rows, field);
+pub fn entry_line(
+    rt: &impl Print,
+    rows: &[u64],
+    field: usize,
+    name: &[u8],
+    entry: usize,
+) -> io::Result<()> {
+    say_field(rt, field)?;
+    say(rt, name)?;
+    say(rt, b" ")?;
+    say_number(rt, entry as u64)?;
+    say_row(rt, rows, field)
 }
 
-fn say_field(field: usize) {
-    say(b"| ");
-    say_number(field as u64);
-    say(b" | ");
+fn say_field(rt: &impl Print, field: usize) -> io::Result<()> {
+    say(rt, b"| ")?;
+    say_number(rt, field as u64)?;
+    say(rt, b" | ")
 }
 
-fn say_row(rows: &[u64], field: usize) {
+fn say_row(rt: &impl Print, rows: &[u64], field: usize) -> io::Result<()> {
     if field < rows.len() {
         let row = rows[field];
-        say(b" | ");
-        say_bits(row);
-        say(b" | ");
-        say_when(rows, row);
-        say(b" | ");
-        say_rule(row);
-        say(b" |\n");
+        say(rt, b" | ")?;
+        say_bits(rt, row)?;
+        say(rt, b" | ")?;
+        say_when(rt, rows, row)?;
+        say(rt, b" | ")?;
+        say_rule(rt, row)?;
+        say(rt, b" |\n")?;
     }
+    Ok(())
 }
 
-fn say_bits(row: u64) {
-    say_number(row::bits(row));
+fn say_bits(rt: &impl Print, row: u64) -> io::Result<()> {
+    say_number(rt, row::bits(row))?;
     if row::letters(row) != 0 {
-        say(b": ");
-        say_number(row::letters(row));
-        say(b" letters of ");
-        say_number(row::width(row));
+        say(rt, b": ")?;
+        say_number(rt, row::letters(row))?;
+        say(rt, b" letters of ")?;
+        say_number(rt, row::width(row))?;
     }
     if row::rule(row) == row::rule(row::TARIFF) {
-        say(b": 4, 8 and 4");
+        say(rt, b": 4, 8 and 4")?;
     }
+    Ok(())
 }
 
-fn say_when(rows: &[u64], row: u64) {
+fn say_when(rt: &impl Print, rows: &[u64], row: u64) -> io::Result<()> {
     if row::when(row) == row::when(row::WHEN_BIT) {
-        say(b"bit ");
-        say_number(row::element(row));
-        say(b" of field ");
-        say_number(field_of(rows, row::slot(row)) as u64);
-        return;
+        say(rt, b"bit ")?;
+        say_number(rt, row::element(row))?;
+        say(rt, b" of field ")?;
+        say_number(rt, field_of(rows, row::slot(row)) as u64)?;
+        return Ok(());
     }
     if row::when(row) == row::when(row::WHEN_ABOVE) {
-        say(b"field ");
-        say_number(field_of(rows, row::slot(row)) as u64);
-        say(b" is above ");
-        say_number(row::element(row));
-        return;
+        say(rt, b"field ")?;
+        say_number(rt, field_of(rows, row::slot(row)) as u64)?;
+        say(rt, b" is above ")?;
+        say_number(rt, row::element(row))?;
+        return Ok(());
     }
-    say(b"always");
+    say(rt, b"always")
 }
 
 // The field that a slot's number is of.
@@ -100,19 +111,20 @@ fn field_of(rows: &[u64], slot: u64) -> usize {
     field
 }
 
-fn say_rule(row: u64) {
+fn say_rule(rt: &impl Print, row: u64) -> io::Result<()> {
     let rule = row::rule(row);
     if rule == row::rule(row::AT_MOST) {
-        say(b"at most ");
-        say_number(row::limit(row));
+        say(rt, b"at most ")?;
+        say_number(rt, row::limit(row))?;
     }
     if rule == row::rule(row::AT_MOST_N) {
-        say(b"at most N, the number of contract records");
+        say(rt, b"at most N, the number of contract records")?;
     }
     if rule == row::rule(row::TARIFF) {
-        say(b"the priority is not 13");
+        say(rt, b"the priority is not 13")?;
     }
     if rule == row::rule(row::NO_SECOND) {
-        say(b"bit 1, EnvData2, is zero");
+        say(rt, b"bit 1, EnvData2, is zero")?;
     }
+    Ok(())
 }

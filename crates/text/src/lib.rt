@@ -1,4 +1,6 @@
 // Bytes as text, for the programs.
+#![tactic(auto)]
+
 ghost use Rattle.std.specs.Prelude.{◌≡◌, Bool, true, ℕ, ◌+◌, ◌*◌, ◌≤◌, length};
 ghost use Rattle.text.specs.Hex.{choose, worth, all_digits, spelt, spells};
 
