@@ -4,7 +4,7 @@
 use Prim.Native.Nat.{ℕ}
 use mathlib.Core.Bool.{Bool, true, false}
 use mathlib.Core.List.{List, [], ◌∷◌}
-use mathlib.Core.Path.{◌≡◌, refl, sym, ap, ◌∙◌}
+use mathlib.Core.Path.{◌≡◌, refl, sym, ap, subst, ◌∙◌}
 use lib.ListN.{length}
 use Rattle.rows.specs.Row.{among}
 use Rattle.rows.specs.Refusing.{may_name}
@@ -273,9 +273,13 @@ sound :
 sound refused after before of_good of_bad {ns} {x} is (fine a) =
     let none : refused x ≡ refusal 0 0 = ap refused is ∙ of_good a in
     (rw none, rw none, λ some. absurd (some (ap (λ (r : Refusal). r.number) none)))
-sound refused after before of_good of_bad {ns} is (faulty r why) =
+sound refused after before of_good of_bad {ns} {x} is (faulty r why) =
     let (own, kept) = of_bad r in
-    (rw (ap refused is ∙ own) (among_behind r.number (0 ∷ []) ns why.listed), rw (ap refused is ∙ own) why.named, λ some. ap after is ∙ kept)
+    let told : refused x ≡ r = ap refused is ∙ own in (
+      subst (λ (s : Refusal). among s.number (0 ∷ ns) ≡ true) (sym told) (among_behind r.number (0 ∷ []) ns why.listed),
+      rw told why.named,
+      λ some. ap after is ∙ kept,
+    )
 
 -- A reading, and a writing.
 read :
