@@ -1,6 +1,6 @@
 """How much stack a function of a program needs at most, with all functions under it, as its machine code says.
 
-python3 docs/src/stack.py target/bin/bench loading::load     prints the frames along the deepest chain of calls
+python3 docs/src/stack.py crates/bench/out/bench loading::load     prints the frames along the deepest chain of calls
 """
 
 import re
