@@ -80,7 +80,14 @@ fn field(rt: &impl Print, state: State) -> io::Result<()> {
 }
 
 // The numbers of a row's field; of a text only the letters up to the bit.
-fn numbers(rt: &impl Print, row: u64, first: u32, start: u32, at: u32, numbers: &[u32]) -> io::Result<()> {
+fn numbers(
+    rt: &impl Print,
+    row: u64,
+    first: u32,
+    start: u32,
+    at: u32,
+    numbers: &[u32],
+) -> io::Result<()> {
     let pace = pace(row);
     let mut slot = first as usize;
     let mut place = start;

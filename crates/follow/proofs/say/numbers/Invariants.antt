@@ -1,4 +1,4 @@
-use Rattle.std.proofs.Common.{length, ◌-◌, ◌≡◌, ◌+◌, ◌≤◌}
+use Rattle.std.proofs.Common.{length, ◌-◌, ◌≤◌}
 use Rattle.follow.proofs.say.numbers.Given as goal
 
 abbrev pub invariant-loop-slot : goal.invariant-loop-slot

@@ -1,5 +1,4 @@
-use Rattle.std.proofs.Common.{length, ◌-◌, ◌≡◌, ◌+◌, ◌≤◌}
-use Rattle.io.specs.Counts.{IsPrefixLen}
+use Rattle.std.proofs.Common.{length, ◌-◌, ◌≤◌}
 use Rattle.lines.proofs.scan.word_end.Given as goal
 
 abbrev pub invariant-loop-i : goal.invariant-loop-i

@@ -1,4 +1,4 @@
-use Rattle.std.proofs.Common.{length, ◌-◌, ◌≡◌, ◌+◌, ◌≤◌}
+use Rattle.std.proofs.Common.{length, ◌-◌, ◌≤◌}
 use Rattle.sheet.proofs.draw.field_of.Given as goal
 
 abbrev pub invariant-loop-field : goal.invariant-loop-field
