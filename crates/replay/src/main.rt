@@ -37,7 +37,12 @@ fn take_pieces(rt: &impl Print, from: &mut impl Read, line: &mut [u8]) -> io::Re
     Ok(input.n)
 }
 
-fn take_piece(rt: &impl Print, from: &mut impl Read, line: &mut [u8], n: usize) -> io::Result<Input> {
+fn take_piece(
+    rt: &impl Print,
+    from: &mut impl Read,
+    line: &mut [u8],
+    n: usize,
+) -> io::Result<Input> {
     let mut piece = [0u8; 4096];
     let count = from.read(&mut piece)?;
     Ok(Input {
