@@ -1,4 +1,4 @@
-use Rattle.std.proofs.Common.{length, ◌-◌, ◌≡◌, ◌+◌, ◌≤◌}
+use Rattle.std.proofs.Common.{length, ◌-◌, ◌≤◌}
 use Rattle.bench.proofs.one_round.Given as goal
 
 abbrev pub invariant-loop-from : goal.invariant-loop-from
