@@ -7,10 +7,14 @@ pub loop-i-init : goal.loop-i-init
 loop-i-init c = (search rules, rw (sub-zero, mul-zero, add-zero))
 
 pub returns-then-of_entry-pointer : goal.returns-then-of_entry-pointer
-returns-then-of_entry-pointer c = rw (c.loop-i.invariant.1, column_from c.args.k c.args.size c.args.size c.loop-i.i c.args.numbers.now c.loop-i-test.true, ← c.of_entry.ensures, eq-eqb _ _ c.if-of_entry-pointer.true)
+returns-then-of_entry-pointer c =
+    let a = c.args in
+    rw (c.loop-i.invariant.1, column_from a.k a.size a.size c.loop-i.i a.numbers.now c.loop-i-test.true, ← c.of_entry.ensures, eq-eqb _ _ c.if-of_entry-pointer.true)
 
 pub loop-i-preserved : goal.loop-i-preserved
-loop-i-preserved c = (search rules, rw (c.loop-i.invariant.1, column_from c.args.k c.args.size c.args.size c.loop-i.i c.args.numbers.now c.loop-i-test.true, ← c.of_entry.ensures, ne_eqb _ _ c.if-of_entry-pointer.false))
+loop-i-preserved c =
+    let a = c.args in
+    (search rules, rw (c.loop-i.invariant.1, column_from a.k a.size a.size c.loop-i.i a.numbers.now c.loop-i-test.true, ← c.of_entry.ensures, ne_eqb _ _ c.if-of_entry-pointer.false))
 
 pub returns : goal.returns
 returns c =

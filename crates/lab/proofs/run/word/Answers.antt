@@ -18,11 +18,13 @@ made bs word k from h own = rw (part_add k 1 from bs, part_one (from + k) bs, h,
 pub overflow_mul-word : goal.overflow_mul-word
 overflow_mul-word c =
     let from = c.args.from in
-    omega (arith, part_add c.loop-k.k 1 from (cleared c.args.end (spread 8 c.args.bytes.now)), fits (c.loop-k.k + 1) from (cleared c.args.end (spread 8 c.args.bytes.now)) (omega arith))
+    let bits = cleared c.args.end (spread 8 c.args.bytes.now) in
+    omega (arith, part_add c.loop-k.k 1 from bits, fits (c.loop-k.k + 1) from bits (omega arith))
 
 pub overflow_add-word : goal.overflow_add-word
 overflow_add-word c =
-    omega (arith, made (cleared c.args.end (spread 8 c.args.bytes.now)) _ c.loop-k.k _ c.loop-k.invariant.1 c.margin_bit.ensures, fits (c.loop-k.k + 1) c.args.from (cleared c.args.end (spread 8 c.args.bytes.now)) (omega arith))
+    let bits = cleared c.args.end (spread 8 c.args.bytes.now) in
+    omega (arith, made bits _ c.loop-k.k _ c.loop-k.invariant.1 c.margin_bit.ensures, fits (c.loop-k.k + 1) c.args.from bits (omega arith))
 
 pub loop-k-preserved : goal.loop-k-preserved
 loop-k-preserved c = (search rules, made _ _ c.loop-k.k _ c.loop-k.invariant.1 c.margin_bit.ensures)
