@@ -1,11 +1,8 @@
-use Rattle.std.proofs.Common.{◌≡◌, false, get_or, ℕ, ◌+◌, ◌*◌, ◌^◌, ◌<◌, ◌≤◌, Bool, List, refl, ◌∙◌, arith, pow_mono, rules}
+use Rattle.std.proofs.Common.{◌≡◌, false, get_or, ℕ, ◌+◌, ◌*◌, ◌^◌, ◌<◌, ◌≤◌, Bool, List, ◌∙◌, arith, pow_mono, rules}
 use Rattle.bits.specs.Bits.{bit, spread, cleared}
 use Rattle.bits.proofs.Fronts.{part, part_add, part_lt, part_padded}
 use Rattle.bits.proofs.Cutting.{part_one}
 use Rattle.lab.proofs.run.word.Goals as goal
-
-pub loop-k-init : goal.loop-k-init
-loop-k-init c = (search rules, refl)
 
 -- Up to 64 bits fit a word.
 fits : (k at : ℕ) (bs : List Bool) → k ≤ 64 → part k at bs < 2 ^ 64
