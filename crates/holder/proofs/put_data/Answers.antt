@@ -1,9 +1,8 @@
-use lib.Dec.{lit≤}
 use Prim.Native.Nat.{ℕ}
 use mathlib.Core.List.{List}
 use Rattle.rows.specs.Inner.Line.{Puts, given, ◌◂◌}
 use Rattle.rows.specs.Table.Holder.{holder}
-use Rattle.rows.proofs.Running.{puts_append, puts_long}
+use Rattle.rows.proofs.Running.{puts_append}
 use Rattle.records.specs.Answer.{from}
 use Rattle.holder.specs.Holder.{numbers_of}
 use Rattle.holder.specs.Inner.Steps.{block}
@@ -31,45 +30,3 @@ returns c =
     ◂ c.number.ensures
     ◂ given in
     record { puts = puts_append front back; ready = c.number.ensures.ready }
-
-pub number-c-requires : goal.number-c-requires
-number-c-requires c = search lit≤
-
-pub number-c-requires-2 : goal.number-c-requires-2
-number-c-requires-2 c = search lit≤
-
-pub number-c-requires-3 : goal.number-c-requires-3
-number-c-requires-3 c = search lit≤
-
-pub put_place-c-requires : goal.put_place-c-requires
-put_place-c-requires c = search lit≤
-
-pub number-c-requires-4 : goal.number-c-requires-4
-number-c-requires-4 c = search lit≤
-
-pub put_place-c-requires-2 : goal.put_place-c-requires-2
-put_place-c-requires-2 c = search lit≤
-
-pub put_place-c-requires-3 : goal.put_place-c-requires-3
-put_place-c-requires-3 c = search lit≤
-
-pub number-c-requires-5 : goal.number-c-requires-5
-number-c-requires-5 c = search lit≤
-
-pub number-c-requires-6 : goal.number-c-requires-6
-number-c-requires-6 c = search lit≤
-
-pub number-c-requires-7 : goal.number-c-requires-7
-number-c-requires-7 c = search lit≤
-
-pub number-c-requires-8 : goal.number-c-requires-8
-number-c-requires-8 c = search lit≤
-
-pub number-c-requires-9 : goal.number-c-requires-9
-number-c-requires-9 c = search lit≤
-
-pub number-requires : goal.number-requires
-number-requires c = search lit≤
-
-pub shape_of-draft : goal.shape_of-draft
-shape_of-draft c = puts_long (returns c).puts

@@ -2,7 +2,7 @@ use Prim.Native.Nat.{ℕ}
 use mathlib.Core.List.{List}
 use Rattle.rows.specs.Inner.Line.{Puts, given, ◌◂◌}
 use Rattle.rows.specs.Table.Holder.{holder}
-use Rattle.rows.proofs.Running.{puts_append, puts_long}
+use Rattle.rows.proofs.Running.{puts_append}
 use Rattle.records.specs.Answer.{from}
 use Rattle.holder.specs.Holder.{numbers_of}
 use Rattle.holder.specs.Inner.Steps.{block}
@@ -43,6 +43,3 @@ returns c =
           (puts_append first (puts_append second (puts_append third (puts_append fourth c.put_data.ensures.puts)))));
       ready = c.put_data.ensures.ready;
     }
-
-pub shape_of-draft : goal.shape_of-draft
-shape_of-draft c = puts_long (returns c).puts

@@ -9,6 +9,3 @@ pub returns : goal.returns
 returns c =
     let short : area_length (length c.args.bytes.now) ≡ false = cc in
     c.refused.ensures ∙ area_short _ _ _ _ short
-
-pub read_area-requires : goal.read_area-requires
-read_area-requires c = cc

@@ -9,6 +9,3 @@ pub returns : goal.returns
 returns c =
     let short : area_length (length c.args.bytes.now) ≡ false = cc in
     area_unwritten _ _ _ _ short
-
-pub write_area-requires : goal.write_area-requires
-write_area-requires c = cc

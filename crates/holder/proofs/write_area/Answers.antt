@@ -1,6 +1,5 @@
-use mathlib.Core.Path.{◌≡◌, refl}
+use mathlib.Core.Path.{refl}
 use native.Mathlib.Omega.{arith}
-use lib.ListN.{length}
 use Rattle.rows.specs.Table.Holder.{holder}
 use Rattle.rows.proofs.Tables.{holder_rows}
 use Rattle.records.proofs.Answering.{area_unput, area_written, area_room}
@@ -10,16 +9,6 @@ use Rattle.holder.proofs.write_area.Goals as goal
 pub returns-then-last-ne0 : goal.returns-then-last-ne0
 unfolding holder
 returns-then-last-ne0 c = rw c.met.ensures (area_unput holder _ _ _ _ _ _ _ (omega (arith, holder_rows)) refl refl c.requires c.put_fields-last.ensures.puts c.if-last-ne0.true)
-
-pub put_area-end-requires : goal.put_area-end-requires
-put_area-end-requires c =
-    let long : length c.put_fields-last.new.draft ≡ 31 = search rules in
-    (c.put_fields-last.ensures.ready, (c.if-last-ne0.false, (omega (arith, area_room _ c.requires), (search rules, omega arith))))
-
-pub end-requires : goal.end-requires
-end-requires c =
-    let long : length c.put_fields-last.new.draft ≡ 31 = search rules in
-    omega (arith, c.put_area-end.ensures.long, area_room _ c.requires)
 
 pub returns : goal.returns
 unfolding holder
@@ -35,6 +24,3 @@ overflow_mul-room c = omega (arith, area_room _ c.requires)
 
 pub put_fields-last-requires : goal.put_fields-last-requires
 put_fields-last-requires c = (search rules, omega (arith, area_room _ c.requires))
-
-pub slice_bounds-put_area-end-2 : goal.slice_bounds-put_area-end-2
-slice_bounds-put_area-end-2 c = let long : length c.args.h.margin ≡ 15 = search rules in search rules

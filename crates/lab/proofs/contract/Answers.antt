@@ -1,15 +1,9 @@
-use Rattle.std.proofs.Common.{sym, refl, ap, ◌∙◌, rules, eq-eqb, ne_eqb}
+use Rattle.std.proofs.Common.{sym, refl, ap, ◌∙◌, rules, eq-eqb}
 use Rattle.contract.specs.Contract.{contract_told}
 use Rattle.contract.specs.declared.ContractRead.TheVariants.{Read}
 use Rattle.lab.proofs.Answers.{record_stops, record_gives}
 use Rattle.lab.proofs.Tables.{contract_slots, contract_own}
 use Rattle.lab.proofs.contract.Goals as goal
-
-pub returns-then-bytes-ne-BYTES : goal.returns-then-bytes-ne-BYTES
-returns-then-bytes-ne-BYTES c = rw (ne_eqb _ _ c.if-bytes-ne-BYTES.true)
-
-pub returns-then-not-known : goal.returns-then-not-known
-returns-then-not-known c = rw (eq-eqb _ _ c.if-bytes-ne-BYTES.false, sym c.known.ensures ∙ c.if-not-known.true)
 
 pub returns-then-refusal-ne0 : goal.returns-then-refusal-ne0
 returns-then-refusal-ne0 c =

@@ -1,7 +1,6 @@
-use Rattle.std.proofs.Common.{add-zero, arith, eq-eqb, ne_eqb}
+use Rattle.std.proofs.Common.{add-zero, eq-eqb, ne_eqb}
 use Rattle.rows.proofs.Stepping.{total_same}
 use Rattle.lab.specs.Layout.{boxes_of}
-use Rattle.lab.proofs.Rows.{few_bits}
 use Rattle.lab.proofs.row.bits.Goals as goal
 
 pub returns-then-rule-eq-OF_TARIFF : goal.returns-then-rule-eq-OF_TARIFF
@@ -15,6 +14,3 @@ returns-then-letters-eq0 c = rw (← c.rule.ensures, ne_eqb _ _ c.if-rule-eq-OF_
 pub returns : goal.returns
 unfolding boxes_of
 returns c = rw (← c.rule.ensures, ne_eqb _ _ c.if-rule-eq-OF_TARIFF.false, ← c.letters-letters.ensures, ne_eqb _ _ c.if-letters-eq0.false, total_same, c.width-2.ensures)
-
-pub overflow_mul-result : goal.overflow_mul-result
-overflow_mul-result c = omega (arith, returns c, few_bits c.args.row)

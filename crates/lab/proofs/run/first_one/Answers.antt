@@ -16,9 +16,6 @@ ahead bytes place h =
     let inside : place < length bits = rw length-spread (omega arith) in
     rw (add-one, drop-cons bits place false inside)
 
-pub returns-then-bit_at : goal.returns-then-bit_at
-returns-then-bit_at c = rw (c.loop-place.invariant, ahead c.args.bytes.now c.loop-place.place (omega arith), ← c.bit_at.ensures, c.if-bit_at.true) (omega arith)
-
 pub loop-place-preserved : goal.loop-place-preserved
 loop-place-preserved c = rw (c.loop-place.invariant, ahead c.args.bytes.now c.loop-place.place (omega arith), ← c.bit_at.ensures, c.if-bit_at.false) (omega arith)
 

@@ -1,11 +1,8 @@
 use Rattle.std.proofs.Common.{◌+◌, ◌*◌, sym, refl, ◌∙◌, rules}
 use Rattle.bits.specs.Bits.{spread, cleared}
 use Rattle.bits.proofs.Fronts.{part_padded}
-use Rattle.bits.proofs.Cutting.{filled_none, filled_more, filled_all}
+use Rattle.bits.proofs.Cutting.{filled_more, filled_all}
 use Rattle.lab.proofs.run.margin.Goals as goal
-
-pub loop-k-init : goal.loop-k-init
-loop-k-init c = (search rules, filled_none 64 64 _ _ _ refl)
 
 pub loop-k-preserved : goal.loop-k-preserved
 loop-k-preserved c =

@@ -1,11 +1,8 @@
-use Rattle.std.proofs.Common.{◌≡◌, false, get_or, ℕ, ◌+◌, ◌*◌, ◌^◌, ◌<◌, ◌≤◌, Bool, List, refl, ◌∙◌, arith, pow_mono, rules}
+use Rattle.std.proofs.Common.{◌≡◌, false, get_or, ℕ, ◌+◌, ◌*◌, ◌^◌, ◌<◌, ◌≤◌, Bool, List, ◌∙◌, arith, pow_mono, rules}
 use Rattle.bits.specs.Bits.{bit, spread, cleared}
 use Rattle.bits.proofs.Fronts.{part, part_add, part_lt, part_padded}
 use Rattle.bits.proofs.Cutting.{part_one}
 use Rattle.lab.proofs.run.word.Goals as goal
-
-pub loop-k-init : goal.loop-k-init
-loop-k-init c = (search rules, refl)
 
 -- Up to 64 bits fit a word.
 fits : (k at : ℕ) (bs : List Bool) → k ≤ 64 → part k at bs < 2 ^ 64
@@ -18,11 +15,13 @@ made bs word k from h own = rw (part_add k 1 from bs, part_one (from + k) bs, h,
 pub overflow_mul-word : goal.overflow_mul-word
 overflow_mul-word c =
     let from = c.args.from in
-    omega (arith, part_add c.loop-k.k 1 from (cleared c.args.end (spread 8 c.args.bytes.now)), fits (c.loop-k.k + 1) from (cleared c.args.end (spread 8 c.args.bytes.now)) (omega arith))
+    let bits = cleared c.args.end (spread 8 c.args.bytes.now) in
+    omega (arith, part_add c.loop-k.k 1 from bits, fits (c.loop-k.k + 1) from bits (omega arith))
 
 pub overflow_add-word : goal.overflow_add-word
 overflow_add-word c =
-    omega (arith, made (cleared c.args.end (spread 8 c.args.bytes.now)) _ c.loop-k.k _ c.loop-k.invariant.1 c.margin_bit.ensures, fits (c.loop-k.k + 1) c.args.from (cleared c.args.end (spread 8 c.args.bytes.now)) (omega arith))
+    let bits = cleared c.args.end (spread 8 c.args.bytes.now) in
+    omega (arith, made bits _ c.loop-k.k _ c.loop-k.invariant.1 c.margin_bit.ensures, fits (c.loop-k.k + 1) c.args.from bits (omega arith))
 
 pub loop-k-preserved : goal.loop-k-preserved
 loop-k-preserved c = (search rules, made _ _ c.loop-k.k _ c.loop-k.invariant.1 c.margin_bit.ensures)

@@ -1,4 +1,4 @@
-use Rattle.std.proofs.Common.{arith, le-ltb, lt-ltb, eq-eqb, ne_eqb}
+use Rattle.std.proofs.Common.{le-ltb, lt-ltb, eq-eqb, ne_eqb}
 use Rattle.lab.specs.Machine.{stepped}
 use Rattle.lab.proofs.Rows.{rows_from, rows_over}
 use Rattle.lab.proofs.state.State.step.Goals as goal
@@ -19,9 +19,6 @@ pub returns-then-bits-taken : goal.returns-then-bits-taken
 unfolding stepped
 returns-then-bits-taken c =
     rw (eq-eqb _ _ c.if-self-ne0.false, lt-ltb _ _ c.if-self.false, rows_from _ _ _ c.if-rows-k.false, ← c.taken.ensures, ← c.bits.ensures, le-ltb _ _ c.if-bits-taken.true)
-
-pub closed-requires : goal.closed-requires
-closed-requires c = rw c.noted-noted.ensures (omega arith)
 
 pub returns : goal.returns
 unfolding stepped
