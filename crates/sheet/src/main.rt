@@ -4,18 +4,18 @@
 mod contracts;
 mod draw;
 mod holders;
-mod lists;
-mod records;
+mod list_lines;
+mod record_lines;
 
 use std::io;
 
 fn main(rt: HostRuntime) -> io::Result<()> {
     intro(&rt)?;
-    records::environment(&rt)?;
+    record_lines::environment(&rt)?;
     holders::holder(&rt)?;
-    records::event(&rt)?;
-    lists::special_list(&rt)?;
-    lists::contract_list(&rt)?;
+    record_lines::event(&rt)?;
+    list_lines::special_list(&rt)?;
+    list_lines::contract_list(&rt)?;
     contracts::carnet(&rt)?;
     contracts::urban(&rt)
 }

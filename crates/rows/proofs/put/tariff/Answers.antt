@@ -1,9 +1,7 @@
-use Rattle.std.proofs.Common.{◌≡◌, eqb, refl, arith, eq-eqb, ne_eqb}
-use Rattle.rows.specs.Row.{pick}
+use Rattle.std.proofs.Common.{rules, refl, arith, eq-eqb, ne_eqb}
 use Rattle.rows.proofs.Stepping.{on, off}
 use Rattle.rows.proofs.Giving.{gave_refused, gave_absent, gave_tariff, packs_clear}
 use Rattle.rows.proofs.put.tariff.Goals as goal
-use Rattle.rows.proofs.put.tariff.Goals.{then-priority-eq-UNDEFINED, else-priority-eq-UNDEFINED}
 
 pub returns-then-c-ne0 : goal.returns-then-c-ne0
 returns-then-c-ne0 c = gave_refused _ _ _ _ _ _ _ c.requires c.if-c-ne0.true
@@ -22,19 +20,9 @@ lay-requires c = let a = c.args in
 pub returns-then-d-eq0 : goal.returns-then-d-eq0
 returns-then-d-eq0 c =
     let a = c.args in
-    let n : c.if-priority-eq-UNDEFINED.broken ≡ pick (eqb a.priority 13) 4 0 =
-    elim c.if-priority-eq-UNDEFINED.branch [
-      | then-priority-eq-UNDEFINED w ↦ rw (w.broken-is, eq-eqb _ _ w.if-priority-eq-UNDEFINED.true)
-      | else-priority-eq-UNDEFINED w ↦ rw (w.broken-is, ne_eqb _ _ w.if-priority-eq-UNDEFINED.false)
-    ] in
-    gave_tariff _ _ _ _ _ _ _ _ _ _ _ c.requires c.lay.auto.draft (on _ c.args.when c.there-here.ensures c.if-not-here.false) (rw c.if-not-here.false at c.tariff_wide-wide.ensures) n c.admit-d.ensures (λ ok. rw c.packed.ensures at c.lay.ensures)
+    gave_tariff _ _ _ _ _ _ _ _ _ _ _ c.requires c.lay.auto.draft (on _ c.args.when c.there-here.ensures c.if-not-here.false) (rw c.if-not-here.false at c.tariff_wide-wide.ensures) (search (rules, eq-eqb, ne_eqb)) c.admit-d.ensures (λ ok. rw c.packed.ensures at c.lay.ensures)
 
 pub returns-else-d-eq0 : goal.returns-else-d-eq0
 returns-else-d-eq0 c =
     let a = c.args in
-    let n : c.if-priority-eq-UNDEFINED.broken ≡ pick (eqb a.priority 13) 4 0 =
-    elim c.if-priority-eq-UNDEFINED.branch [
-      | then-priority-eq-UNDEFINED w ↦ rw (w.broken-is, eq-eqb _ _ w.if-priority-eq-UNDEFINED.true)
-      | else-priority-eq-UNDEFINED w ↦ rw (w.broken-is, ne_eqb _ _ w.if-priority-eq-UNDEFINED.false)
-    ] in
-    gave_tariff _ _ _ _ _ _ _ _ _ _ _ c.requires refl (on _ c.args.when c.there-here.ensures c.if-not-here.false) (rw c.if-not-here.false at c.tariff_wide-wide.ensures) n c.admit-d.ensures (λ ok. absurd (c.if-d-eq0.false ok))
+    gave_tariff _ _ _ _ _ _ _ _ _ _ _ c.requires refl (on _ c.args.when c.there-here.ensures c.if-not-here.false) (rw c.if-not-here.false at c.tariff_wide-wide.ensures) (search (rules, eq-eqb, ne_eqb)) c.admit-d.ensures (λ ok. absurd (c.if-d-eq0.false ok))
