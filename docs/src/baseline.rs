@@ -1,5 +1,5 @@
 //! The program of the yardstick: reads records by the library `cards.rs` and prints one number that every answer goes into.
-//! It starts as a C program does: the kit's emulator does not get through the start of a Rust program.
+//! It starts as a C program does, so that no start of a Rust program runs: not every emulator gets through one.
 
 #![no_main]
 
