@@ -7,7 +7,6 @@ src/ stay.
 """
 import os
 import re
-import subprocess
 import sys
 
 # words of lists and bits after which laws are named
