@@ -14,7 +14,7 @@ use Rattle.rows.specs.Walk.{Outcome, done, refused, total, Content, holding, fra
 use Rattle.rows.specs.Refusing.{widest, walk_numbers}
 use Rattle.rows.specs.Inner.Step.{Packed}
 use Rattle.rows.specs.Inner.Line.{start, Taken, Given}
-use Rattle.rows.specs.declared.Cursor.{Cursor}
+use Rattle.rows.specs.Inner.Standing.{Standing}
 use Rattle.rows.proofs.Walked.{never}
 use Rattle.rows.proofs.Refusing.{Refuses, read_number}
 use Rattle.rows.proofs.Running.{takes_read}
@@ -66,7 +66,7 @@ reads_whole bs long = go (read bip bs) refl (rw long at (read_number bip bs))
     go (refused n at i) e h = absurd (true≢false (sym h.listed))
 
 -- So a line of takes over it comes to its end.
-pub takes_whole : (bytes words all : List ℕ) (d : Cursor) → length bytes ≡ 29 → words ≡ cut 32 64 8 (spread 8 bytes) → Taken words 232 bip [] start all d
+pub takes_whole : (bytes words all : List ℕ) (d : Standing) → length bytes ≡ 29 → words ≡ cut 32 64 8 (spread 8 bytes) → Taken words 232 bip [] start all d
     → d.why ≡ 0
 takes_whole bytes words all d long cuts line =
     let bs : List Bool = spread 8 bytes in
@@ -82,7 +82,7 @@ takes_whole bytes words all d long cuts line =
     go false e c end h = never h
 
 -- And a line of puts gives what the end leaves: no margin stands behind it.
-pub puts_whole : (b : BipContract) (xs ys before after : List ℕ) (d : Cursor) → xs ≡ cut 32 32 (length xs) [] → length before ≡ 29
+pub puts_whole : (b : BipContract) (xs ys before after : List ℕ) (d : Standing) → xs ≡ cut 32 32 (length xs) [] → length before ≡ 29
     → Given 232 (numbers_of b) bip [] xs start (numbers_of b) ys d
     → Packed ys d before after
     → record { answer = met d; bytes = after } ≡ bip_written before b

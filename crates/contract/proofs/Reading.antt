@@ -11,7 +11,7 @@ use Rattle.rows.specs.Row.{Row, pick, told, holds}
 use Rattle.bits.specs.Bits.{cut, spread, cleared}
 use Rattle.rows.specs.Inner.Step.{Ready}
 use Rattle.rows.specs.Inner.Line.{start, Takes, Taken}
-use Rattle.rows.specs.declared.Cursor.{Cursor}
+use Rattle.rows.specs.Inner.Standing.{Standing}
 use Rattle.rows.specs.Margin.{margin_of}
 use Rattle.rows.specs.Table.Contract.{head, data42, data50, contract42, contract50}
 use Rattle.rows.proofs.Running.{takes_append, stopped, Skips, skips_none, skips_more}
@@ -28,7 +28,7 @@ use Rattle.contract.specs.declared.ContractRead.{ContractRead}
 use Rattle.contract.specs.declared.ContractRead.TheVariants.{Read, Refused}
 
 -- The takes of a type's whole table.
-module _ (words : List ℕ) (kind : ℕ) (h : Contract) (c last : Cursor) (front : Taken words 232 head [] start (head_numbers h) c) where
+module _ (words : List ℕ) (kind : ℕ) (h : Contract) (c last : Standing) (front : Taken words 232 head [] start (head_numbers h) c) where
   pub taken42 : (d : Data42) → is_carnet kind ≡ true → Taken words 232 data42 (head_numbers h) c (head_numbers h ++ numbers42 d) last
       → Taken words 232 (table_of kind) [] start (head_numbers h ++ numbers42 d) last
   unfolding contract42
@@ -40,7 +40,7 @@ module _ (words : List ℕ) (kind : ℕ) (h : Contract) (c last : Cursor) (front
   taken50 d e rest = rw e (record { takes = takes_append front.takes rest.takes; ready = rest.ready })
 
 -- Rows that are absent leave zeros in their slots.
-skip_rows : {words : List ℕ} (rs : List Row) (seen : List ℕ) (c : Cursor) → Ready words 232 c → c.why ≡ 0 → absent rs seen ≡ true
+skip_rows : {words : List ℕ} (rs : List Row) (seen : List ℕ) (c : Standing) → Ready words 232 c → c.why ≡ 0 → absent rs seen ≡ true
     → Skips words 232 rs seen c (seen ++ zero_slots rs)
 skip_rows [] seen c ready clear none = rw append-nil (skips_none ready clear seen)
 skip_rows {words} (r ∷ rs) seen c ready clear none =
@@ -50,7 +50,7 @@ skip_rows {words} (r ∷ rs) seen c ready clear none =
     next = seen ++ map (λ (w : ℕ). 0) r.boxes
 
     go : (b : Bool) → holds (told r.cond seen) ≡ b → pick b false (absent rs next) ≡ true
-        → ((d : Cursor) → Ready words 232 d → d.why ≡ 0 → absent rs next ≡ true → Skips words 232 rs next d (next ++ zero_slots rs))
+        → ((d : Standing) → Ready words 232 d → d.why ≡ 0 → absent rs next ≡ true → Skips words 232 rs next d (next ++ zero_slots rs))
         → Skips words 232 (r ∷ rs) seen c (seen ++ zero_slots (r ∷ rs))
     go true e off rest = absurd (false≢true off)
     go false e off rest = skips_more ready clear e (λ d on ok. rw append_assoc at (rest d on ok off))
@@ -64,15 +64,15 @@ unfolding data50
 off50 h none = rw none
 
 -- The takes of a type's whole table where no data follow: behind the head all rows are absent, or it was refused.
-pub record Rest (words : List ℕ) (kind : ℕ) (h : Contract) (c : Cursor) : Type 0 where
+pub record Rest (words : List ℕ) (kind : ℕ) (h : Contract) (c : Standing) : Type 0 where
   pub behind : List ℕ
-  pub last : Cursor
+  pub last : Standing
   pub taken : Taken words 232 (table_of kind) [] start (head_numbers h ++ behind) last
   pub here : last.at ≡ c.at
   pub clear : c.why ≡ 0 → last.why ≡ 0
   pub same : (c.why ≡ 0 → ⊥) → last ≡ c
 
-pub rest_none : (words : List ℕ) (kind : ℕ) (h : Contract) (c : Cursor) → Taken words 232 head [] start (head_numbers h) c → follow h.bitmap ≡ false
+pub rest_none : (words : List ℕ) (kind : ℕ) (h : Contract) (c : Standing) → Taken words 232 head [] start (head_numbers h) c → follow h.bitmap ≡ false
     → Rest words kind h c
 unfolding contract42 contract50
 rest_none words kind h c front none = go (is_carnet kind) refl
@@ -80,7 +80,7 @@ rest_none words kind h c front none = go (is_carnet kind) refl
     -- What the rows behind the head come to.
     Behind : List Row → Type 0
     Behind rows =
-        (vs : List ℕ) × (last : Cursor) × Taken words 232 (head ++ rows) [] start (head_numbers h ++ vs) last
+        (vs : List ℕ) × (last : Standing) × Taken words 232 (head ++ rows) [] start (head_numbers h ++ vs) last
         × (last.at ≡ c.at) × (c.why ≡ 0 → last.why ≡ 0) × ((c.why ≡ 0 → ⊥) → last ≡ c)
 
     both : (rows : List Row) → absent rows (head_numbers h) ≡ true → (b : Bool) → eqb c.why 0 ≡ b → Behind rows
@@ -128,7 +128,7 @@ module _ (kind : ℕ) (h : Contract) (margin : List ℕ) where
   made_none vs f = rw f
 
 -- The answer at the end.
-module _ (kind : ℕ) (bytes words all : List ℕ) (last : Cursor)
+module _ (kind : ℕ) (bytes words all : List ℕ) (last : Standing)
     (whole : length bytes ≡ 29)
     (there : known kind ≡ true)
     (cuts : words ≡ cut 32 64 8 (spread 8 bytes))

@@ -13,7 +13,7 @@ use Rattle.rows.specs.Row.{pick}
 use Rattle.rows.specs.Walk.{Outcome, done, refused, and_then, slots}
 use Rattle.rows.specs.Margin.{words_of}
 use Rattle.rows.specs.Inner.Step.{Drafted, Kept, Packed}
-use Rattle.rows.specs.declared.Cursor.{Cursor}
+use Rattle.rows.specs.Inner.Standing.{Standing}
 use Rattle.rows.specs.Table.Contract.{head, data42, data50, contract42, contract50}
 use Rattle.rows.proofs.Running.{puts_walk}
 use Rattle.rows.proofs.Tables.{head_rows}
@@ -36,7 +36,7 @@ contract_sized kind c = go (is_carnet kind)
     go false = refl
 
 -- A cursor behind the head where the data do not agree is within the room.
-pub disagreed_ready : {draft : List ℕ} {e : Cursor} → Drafted draft 232 e → Drafted draft 232 (disagreed e)
+pub disagreed_ready : {draft : List ℕ} {e : Standing} → Drafted draft 232 e → Drafted draft 232 (disagreed e)
 disagreed_ready {draft} {e} ready = go (eqb e.why 0)
   where
     go : (b : Bool) → Drafted draft 232 (pick b (record { at = e.at; why = 7; field = 10; number = 0 }) e)
@@ -44,11 +44,11 @@ disagreed_ready {draft} {e} ready = go (eqb e.why 0)
     go false = ready
 
 -- The puts of the head alone come to a refusal: the head's own, or 7 behind it.
-module _ (c : Contract) (before xs : List ℕ) (d : Cursor) (empty : xs ≡ cut 32 32 (length xs) []) (put : PutHead c xs d) where
-  e : Cursor
+module _ (c : Contract) (before xs : List ℕ) (d : Standing) (empty : xs ≡ cut 32 32 (length xs) []) (put : PutHead c xs d) where
+  e : Standing
   e = put.last
 
-  stopped : Bool → Cursor
+  stopped : Bool → Standing
   stopped b = pick b (record { at = e.at; why = 7; field = 10; number = 0 }) e
 
   head_stops : d.why ≡ 0 → ⊥
@@ -72,7 +72,7 @@ module _ (c : Contract) (before xs : List ℕ) (d : Cursor) (empty : xs ≡ cut 
       go true t = refl
       go false t = rw t
 
-module _ (kind : ℕ) (c : Contract) (before xs ys : List ℕ) (d : Cursor)
+module _ (kind : ℕ) (c : Contract) (before xs ys : List ℕ) (d : Standing)
     (whole : length before ≡ 29)
     (there : known kind ≡ true)
     (empty : xs ≡ cut 32 32 (length xs) [])
@@ -88,7 +88,7 @@ module _ (kind : ℕ) (c : Contract) (before xs ys : List ℕ) (d : Cursor)
       go false differ = head_denied c before xs d empty (put.opposed differ)
 
   -- Written, or refused for its margin.
-  pub contract_written_law : (zs after : List ℕ) (e : Cursor) → d.why ≡ 0 → Kept ys zs 232 d (spread 64 (words_of c.margin)) e → Packed zs e before after
+  pub contract_written_law : (zs after : List ℕ) (e : Standing) → d.why ≡ 0 → Kept ys zs 232 d (spread 64 (words_of c.margin)) e → Packed zs e before after
       → record { answer = met e; bytes = after } ≡ contract_written kind c before
   contract_written_law zs after e ok kept packed = rw (eq-eqb _ _ whole, there) (go (agrees kind c) refl)
     where

@@ -6,7 +6,7 @@ use native.Mathlib.Omega.{arith}
 use lib.ListN.{length, get_or, replicate, take, drop, drop_of_length-le}
 use lib.Seq.{paste, drop-cons, take_all}
 use Rattle.rows.specs.Inner.Step.{Took, Gave}
-use Rattle.rows.specs.declared.Cursor.{Cursor}
+use Rattle.rows.specs.Inner.Standing.{Standing}
 use Rattle.rows.specs.declared.When.{When}
 use Rattle.rows.specs.declared.Rule.TheVariants.{Any}
 use Rattle.records.specs.Answer.{from}
@@ -15,13 +15,13 @@ use Rattle.holder.specs.declared.Holder.{Holder}
 use Rattle.holder.specs.declared.Profile.{Profile}
 use Rattle.records.proofs.Inverse.{from_all}
 
-pub letters_took : {words : List ℕ} {end : ℕ} {c : Cursor} {t : When} {ws letters : List ℕ} {d : Cursor} (n : ℕ)
+pub letters_took : {words : List ℕ} {end : ℕ} {c : Standing} {t : When} {ws letters : List ℕ} {d : Standing} (n : ℕ)
     → length letters ≡ n
     → Took words end c t ws Any letters d
     → Took words end c t ws Any (from 0 n letters) d
 letters_took {letters} n long took = rw (from_all n letters long) took
 
-pub letters_gave : {xs ys : List ℕ} {room : ℕ} {c : Cursor} {t : When} {letters : List ℕ} {d : Cursor} (n : ℕ)
+pub letters_gave : {xs ys : List ℕ} {room : ℕ} {c : Standing} {t : When} {letters : List ℕ} {d : Standing} (n : ℕ)
     → length letters ≡ n
     → Gave xs ys room c t (replicate (length letters) 5) Any letters d
     → Gave xs ys room c t (replicate n 5) Any (from 0 n letters) d

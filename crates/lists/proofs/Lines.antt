@@ -18,7 +18,7 @@ use Rattle.rows.specs.Walk.{done, refused, and_then, field, exceeds}
 use Rattle.rows.specs.Inner.Step.{passes, admitted, resume, Ready, Took, Drafted, Ended}
 use Rattle.rows.specs.Inner.Line.{start, Takes, taken, ◌▸◌, Taken, Puts}
 use Rattle.rows.specs.Table.BestContracts.{entry, contract_list}
-use Rattle.rows.specs.declared.Cursor.{Cursor}
+use Rattle.rows.specs.Inner.Standing.{Standing}
 use Rattle.rows.specs.declared.When.TheVariants.{Always, Bit}
 use Rattle.rows.specs.declared.Rule.TheVariants.{Any, Most, Tariff}
 use Rattle.rows.proofs.Taking.{took_box_held, took_tariff_held, held_part, ended_refused}
@@ -53,8 +53,8 @@ abbrev none : Entry
 none = entry_of [] 0
 
 skip_entry : {words : List ℕ} (k count : ℕ) (seen : List ℕ) → length seen ≡ 1 + 6 * k → get_or seen 0 0 ≡ count → count ≤ k
-    → {rs : List Row} {all : List ℕ} (c : Cursor) → Ready words 232 c → c.why ≡ 0
-    → ((d : Cursor) → Ready words 232 d → d.why ≡ 0 → Skips words 232 rs (seen ++ entry_numbers none) d all)
+    → {rs : List Row} {all : List ℕ} (c : Standing) → Ready words 232 c → c.why ≡ 0
+    → ((d : Standing) → Ready words 232 d → d.why ≡ 0 → Skips words 232 rs (seen ++ entry_numbers none) d all)
     → Skips words 232 (entry k ++ rs) seen c all
 skip_entry k count seen long counted past c ready clear rest =
     let marks : (some : List ℕ) → get_or (seen ++ (0 ∷ some)) (1 + 6 * k) 0 ≡ 0 = λ some. get_or_at seen 0 some 0 (1 + 6 * k) long in
@@ -65,7 +65,7 @@ skip_entry k count seen long counted past c ready clear rest =
     (λ d on ok. rw append_assoc (rest d on ok)))))))
 
 skip_entries : {words : List ℕ} (m k count : ℕ) (seen : List ℕ) → length seen ≡ 1 + 6 * k → get_or seen 0 0 ≡ count → count ≤ k
-    → (c : Cursor) → Ready words 232 c → c.why ≡ 0
+    → (c : Standing) → Ready words 232 c → c.why ≡ 0
     → Skips words 232 (rows_from entry k m) seen c (seen ++ flat entry_numbers (replicate m none))
 skip_entries zero k count seen long counted past c ready clear = rw append-nil (skips_none ready clear seen)
 skip_entries (suc m) k count seen long counted past c ready clear =
@@ -84,7 +84,7 @@ most_read false true over v x end at e i h = let z : ◌≡◌ {A = ℕ} 0 1 = c
 most_read false false true v x end at e i h = let z : ◌≡◌ {A = ℕ} 0 1 = cc in absurd (omega arith)
 most_read false false false v x end at e i h = (cc, refl)
 
-pub took_most : (words : List ℕ) (end : ℕ) (c d : Cursor) (w m : ℕ) (bs : List Bool)
+pub took_most : (words : List ℕ) (end : ℕ) (c d : Standing) (w m : ℕ) (bs : List Bool)
     → length bs ≡ end
     → words ≡ cut 32 64 (length words) bs
     → c.why ≡ 0
@@ -102,7 +102,7 @@ took_most words end c d w m bs long cuts clear few ok took =
     omega arith
 
 -- An entry's tariff and pointer, read as one number where both are there and in their room.
-admitted_there : (c : Cursor) (w : ℕ) → c.why ≡ 0 → c.at + w ≤ 232 → passes c 1 w 0 ≡ admitted c 232 w false 0 0
+admitted_there : (c : Standing) (w : ℕ) → c.why ≡ 0 → c.at + w ≤ 232 → passes c 1 w 0 ≡ admitted c 232 w false 0 0
 admitted_there c w clear room = rw (eq-eqb _ _ clear, le-ltb _ _ room)
 
 pub test_all : (marks why at : ℕ) → (eqb (marks / 2) 3 && eqb why 0) && leb at 211 ≡ true → (marks / 2 ≡ 3) × (why ≡ 0) × (at ≤ 211)
@@ -111,7 +111,7 @@ test_all marks why at h =
     let (there, none) = both _ _ clear in
     (eqb-true _ _ there, eqb-true _ _ none, leb-true _ _ room)
 
-pub rest_took : (words : List ℕ) (c : Cursor) (marks v : ℕ)
+pub rest_took : (words : List ℕ) (c : Standing) (marks v : ℕ)
     → Ready words 232 c
     → marks / 2 ≡ 3
     → c.why ≡ 0
@@ -122,7 +122,7 @@ pub rest_took : (words : List ℕ) (c : Cursor) (marks v : ℕ)
     (passes c 2 21 0)
 rest_took words c marks v ready full clear room reads defined =
     let u : ℕ = v / 32 % 65536 in
-    let between : Cursor = passes c 1 16 0 in
+    let between : Standing = passes c 1 16 0 in
     let here : c.at + 0 ≡ c.at = omega arith in
     let behind : c.at + 21 ≡ c.at + 16 + 5 = omega arith in
     let own : v / 1 % 32 ≡ v % 32 = omega arith in
@@ -159,7 +159,7 @@ module _ (bytes : List ℕ) (n counters : ℕ) (words : List ℕ)
     (inside : outside n counters ≡ false)
     (cuts : words ≡ cut 32 64 8 (spread 8 bytes)) where
   -- A refusal at the count or in an entry is the answer.
-  pub line_refused : (k : ℕ) (all : List ℕ) (d : Cursor) → k ≤ 8
+  pub line_refused : (k : ℕ) (all : List ℕ) (d : Standing) → k ≤ 8
       → Takes words 232 (box_most n 4 always ∷ rows_from entry 0 k) [] start all d
       → Ready words 232 d
       → (d.why ≡ 0 → ⊥)
@@ -173,7 +173,7 @@ module _ (bytes : List ℕ) (n counters : ℕ) (words : List ℕ)
       why
 
 -- What the reader's loop has come to before entry k: the entries so far taken, judged and counted, the others as at the start.
-pub record Sofar (bytes : List ℕ) (n counters : ℕ) (words : List ℕ) (count : ℕ) (l : ContractList) (j : Judged) (s : Spent) (c : Cursor) (k : ℕ) : Type 0 where
+pub record Sofar (bytes : List ℕ) (n counters : ℕ) (words : List ℕ) (count : ℕ) (l : ContractList) (j : Judged) (s : Spent) (c : Standing) (k : ℕ) : Type 0 where
   pub whole : length bytes ≡ 29
   pub inside : outside n counters ≡ false
   pub cuts : words ≡ cut 32 64 8 (spread 8 bytes)
@@ -188,7 +188,7 @@ pub record Sofar (bytes : List ℕ) (n counters : ℕ) (words : List ℕ) (count
   pub spends : s ≡ spent_of counters (take k l.entries)
   pub judges : Judges 3 n (bitmaps (take k l.entries)) (pointers (take k l.entries)) j
 
-pub sofar_start : (bytes : List ℕ) (n counters : ℕ) (words : List ℕ) (head : Cursor)
+pub sofar_start : (bytes : List ℕ) (n counters : ℕ) (words : List ℕ) (head : Standing)
     → length bytes ≡ 29
     → outside n counters ≡ false
     → words ≡ cut 32 64 8 (spread 8 bytes)
@@ -216,7 +216,7 @@ sofar_start bytes n counters words head whole inside cuts took clear =
       judges = judges_none 3 n;
     }
 
-module _ {bytes : List ℕ} {n counters : ℕ} {words : List ℕ} {count : ℕ} {l : ContractList} {j : Judged} {s : Spent} {c : Cursor} {k : ℕ} (so : Sofar bytes n counters words count l j s c k) where
+module _ {bytes : List ℕ} {n counters : ℕ} {words : List ℕ} {count : ℕ} {l : ContractList} {j : Judged} {s : Spent} {c : Standing} {k : ℕ} (so : Sofar bytes n counters words count l j s c k) where
   few_taken : k ≤ 8
   few_taken = omega (arith, so.few, so.upto)
 
@@ -224,13 +224,13 @@ module _ {bytes : List ℕ} {n counters : ℕ} {words : List ℕ} {count : ℕ} 
   own_long = seen_long entry_numbers 6 (λ e. refl) count l.entries k (rw so.eight few_taken)
 
   -- An entry more.
-  more_taken : (e : Entry) (d : Cursor)
+  more_taken : (e : Entry) (d : Standing)
       → EntryTook words (entry k) (1 + 6 * k) count c (entry_numbers e) d
       → Takes words 232 (box_most n 4 always ∷ rows_from entry 0 (k + 1)) [] start ((count ∷ flat entry_numbers (take k l.entries)) ++ entry_numbers e) d
   more_taken e d took =
       rw (← rows_more entry k) (takes_append so.takes (took.takes (count ∷ flat entry_numbers (take k l.entries)) own_long refl))
 
-  pub sofar_refused : (e : Entry) (d : Cursor)
+  pub sofar_refused : (e : Entry) (d : Standing)
       → EntryTook words (entry k) (1 + 6 * k) count c (entry_numbers e) d
       → k < count
       → (d.why ≡ 0 → ⊥)
@@ -250,7 +250,7 @@ module _ {bytes : List ℕ} {n counters : ℕ} {words : List ℕ} {count : ℕ} 
   pub sofar_ready : (counters ≤ 8) × (s.counter ≤ s.all)
   sofar_ready = (omega (arith, inside_limits n counters so.inside), rw so.spends (spent_few counters (take k l.entries)))
 
-  pub sofar_more : (e : Entry) (d : Cursor) (i : Judged) (t : Spent)
+  pub sofar_more : (e : Entry) (d : Standing) (i : Judged) (t : Spent)
       → EntryTook words (entry k) (1 + 6 * k) count c (entry_numbers e) d
       → k < count
       → d.why ≡ 0
@@ -306,7 +306,7 @@ module _ {bytes : List ℕ} {n counters : ℕ} {words : List ℕ} {count : ℕ} 
         let all : k ≡ l.count = omega (arith, so.upto, so.counts) in
         so.judges.fault ∙ rw all (fault_list n l so.eight)
 
-    module _ (e f : Cursor) (ended : Ended words 232 c e) (ruled : f ≡ obeyed e j.fault) where
+    module _ (e f : Standing) (ended : Ended words 232 c e) (ruled : f ≡ obeyed e j.fault) where
       pub sofar_read : f.why ≡ 0 → (t : Tally)
           → t ≡ record { counter = record { used = j.used % 2 ^ counters; spent = s.counter }; plain = record { used = j.used - j.used % 2 ^ counters; spent = s.all - s.counter } }
           → got_list (record { count = l.count; entries = l.entries; tally = t }) ≡ list_read n counters bytes
@@ -325,13 +325,13 @@ module _ {bytes : List ℕ} {n counters : ℕ} {words : List ℕ} {count : ℕ} 
           (omega (arith, list_rows n)) so.whole so.inside so.cuts sofar_taken (skips_ended e skipped so.clear ended) (ruled ∙ rw sofar_fault) why
 
 -- What the writer's loop has come to before entry k, the count put before it.
-pub record Putting (l : ContractList) (xs : List ℕ) (b : Cursor) (ys : List ℕ) (c : Cursor) (k : ℕ) : Type 0 where
+pub record Putting (l : ContractList) (xs : List ℕ) (b : Standing) (ys : List ℕ) (c : Standing) (k : ℕ) : Type 0 where
   pub upto : k ≤ 8
   pub ready : Drafted ys 232 c
   pub puts : Puts 232 (numbers_of l) (rows_from entry 0 k) (l.count ∷ []) xs b (l.count ∷ flat entry_numbers (take k l.entries)) ys c
 
-module _ {l : ContractList} {xs : List ℕ} {b : Cursor} {ys : List ℕ} {c : Cursor} {k : ℕ} (eight : length l.entries ≡ 8) (so : Putting l xs b ys c k) where
-  pub putting_more : (d : Entry) (zs : List ℕ) (e : Cursor)
+module _ {l : ContractList} {xs : List ℕ} {b : Standing} {ys : List ℕ} {c : Standing} {k : ℕ} (eight : length l.entries ≡ 8) (so : Putting l xs b ys c k) where
+  pub putting_more : (d : Entry) (zs : List ℕ) (e : Standing)
       → k < 8
       → EntryGave ys zs (entry k) (1 + 6 * k) l.count c (entry_numbers (get_or l.entries k d)) e
       → Putting l xs b zs e (k + 1)

@@ -14,7 +14,7 @@ use Rattle.rows.specs.Row.{Row, pick, above, bit}
 use Rattle.rows.specs.Walk.{Outcome, done, refused, and_then, frame, laid_on, slots}
 use Rattle.rows.specs.Inner.Step.{Took, Gave, Ended, Packed}
 use Rattle.rows.specs.Inner.Line.{start, Takes, ◌▸◌, Taken, Puts, ◌◂◌, tells}
-use Rattle.rows.specs.declared.Cursor.{Cursor}
+use Rattle.rows.specs.Inner.Standing.{Standing}
 use Rattle.rows.specs.declared.Rule.{Rule}
 use Rattle.rows.specs.declared.When.TheVariants.{Bit, Above}
 use Rattle.rows.proofs.Running.{takes_bare, puts_walk, puts_bare}
@@ -33,14 +33,14 @@ length_of_map A B f l n h = sym (length-map l f) ∙ h
 -- An entry's fields, the numbers seen before it being so many, with the count in front.
 module _ {words : List ℕ} {end : ℕ} (seen : List ℕ) (n count : ℕ) (long : length seen ≡ n) (counted : get_or seen 0 0 ≡ count) where
   -- its bitmap
-  pub take_bitmap : {ws : List ℕ} {k : ℕ} {rule : Rule} {rs : List Row} {c : Cursor} {b : ℕ} {e : Cursor} {all : List ℕ} {d : Cursor}
+  pub take_bitmap : {ws : List ℕ} {k : ℕ} {rule : Rule} {rs : List Row} {c : Standing} {b : ℕ} {e : Standing} {all : List ℕ} {d : Standing}
       → Took words end c (Above count k) ws rule (b ∷ []) e
       → Takes words end rs (seen ++ (b ∷ [])) e all d
       → Takes words end (record { boxes = ws; cond = above 0 k; rule = rule } ∷ rs) seen c all d
   take_bitmap took rest = (rw (← counted) at took) ▸ rest
 
   -- an element, some numbers after the bitmap
-  pub take_element : {ws : List ℕ} {j : ℕ} {rule : Rule} {rs : List Row} {c : Cursor} {b : ℕ} {vs : List ℕ} {e : Cursor} {all : List ℕ} {d : Cursor} (some : List ℕ)
+  pub take_element : {ws : List ℕ} {j : ℕ} {rule : Rule} {rs : List Row} {c : Standing} {b : ℕ} {vs : List ℕ} {e : Standing} {all : List ℕ} {d : Standing} (some : List ℕ)
       → Took words end c (Bit b j) ws rule vs e
       → Takes words end rs (seen ++ (b ∷ (some ++ vs))) e all d
       → Takes words end (record { boxes = ws; cond = bit n j; rule = rule } ∷ rs) (seen ++ (b ∷ some)) c all d
@@ -49,7 +49,7 @@ module _ {words : List ℕ} {end : ℕ} (seen : List ℕ) (n count : ℕ) (long 
 
 -- The same of puts, the numbers from slot n on being the entry's.
 module _ {room : ℕ} (vals seen : List ℕ) (n count : ℕ) (long : length seen ≡ n) (counted : get_or seen 0 0 ≡ count) where
-  pub put_bitmap : {w k : ℕ} {rule : Rule} {rs : List Row} {xs zs : List ℕ} {c : Cursor} {b : ℕ} {more : List ℕ} {e : Cursor} {all ys : List ℕ} {d : Cursor}
+  pub put_bitmap : {w k : ℕ} {rule : Rule} {rs : List Row} {xs zs : List ℕ} {c : Standing} {b : ℕ} {more : List ℕ} {e : Standing} {all ys : List ℕ} {d : Standing}
       → drop n vals ≡ b ∷ more
       → Gave xs zs room c (Above count k) (w ∷ []) rule (b ∷ []) e
       → Puts room vals rs (seen ++ (b ∷ [])) zs e all ys d
@@ -58,7 +58,7 @@ module _ {room : ℕ} (vals seen : List ℕ) (n count : ℕ) (long : length seen
       let own : take 1 (drop (length seen) vals) ≡ b ∷ [] = rw (long, split) in
       (rw (← counted, ← own) at gave) ◂ (rw (← own) at rest)
 
-  pub put_element : {ws : List ℕ} {j : ℕ} {rule : Rule} {rs : List Row} {xs zs : List ℕ} {c : Cursor} {b : ℕ} {vs : List ℕ} {e : Cursor} {all ys : List ℕ} {d : Cursor} (some more : List ℕ)
+  pub put_element : {ws : List ℕ} {j : ℕ} {rule : Rule} {rs : List Row} {xs zs : List ℕ} {c : Standing} {b : ℕ} {vs : List ℕ} {e : Standing} {all ys : List ℕ} {d : Standing} (some more : List ℕ)
       → drop n vals ≡ b ∷ (some ++ (vs ++ more))
       → length ws ≡ length vs
       → Gave xs zs room c (Bit b j) ws rule vs e
@@ -70,7 +70,7 @@ module _ {room : ℕ} (vals seen : List ℕ) (n count : ℕ) (long : length seen
       (rw (← get_or_at seen b some 0 n long, ← own) at gave) ◂ (rw (← append_assoc seen (b ∷ some) vs, ← own) at rest)
 
 -- The rule after all else, of an outcome and of a cursor.
-obeys_tells : {A : Type 0} (fault : A → ℕ) (c : Cursor) (a : A)
+obeys_tells : {A : Type 0} (fault : A → ℕ) (c : Standing) (a : A)
     → and_then (tells c a) (λ x end. obeying (fault x) x end) ≡ tells (obeyed c (fault a)) a
 obeys_tells fault c a = go (eqb c.why 0) refl (eqb (fault a) 0) refl
   where
@@ -82,7 +82,7 @@ obeys_tells fault c a = go (eqb c.why 0) refl (eqb (fault a) 0) refl
     go false e t h = rw e
 
 -- The tally after that, of an answer and of a cursor.
-fair_tells : (is_fair : Bool) (before : List ℕ) (c : Cursor) (bits : List Bool)
+fair_tells : (is_fair : Bool) (before : List ℕ) (c : Standing) (bits : List Bool)
     → fairly is_fair before (written before (tells c bits)) ≡ written before (tells (tallied c is_fair) bits)
 fair_tells is_fair before c bits = go (eqb c.why 0) refl is_fair
   where
@@ -95,14 +95,14 @@ fair_tells is_fair before c bits = go (eqb c.why 0) refl is_fair
     go false e false = rw e
 
 -- Both only refuse.
-tallied_clear : (c : Cursor) (f : Bool) → (tallied c f).why ≡ 0 → c.why ≡ 0
+tallied_clear : (c : Standing) (f : Bool) → (tallied c f).why ≡ 0 → c.why ≡ 0
 tallied_clear c f = go (f || not (eqb c.why 0))
   where
     go : (b : Bool) → (pick b c (record { at = 0; why = 6; field = 0; number = 0 })).why ≡ 0 → c.why ≡ 0
     go true ok = ok
     go false ok = absurd (omega arith)
 
-obeyed_clear : (c : Cursor) (k : ℕ) → (obeyed c k).why ≡ 0 → c.why ≡ 0
+obeyed_clear : (c : Standing) (k : ℕ) → (obeyed c k).why ≡ 0 → c.why ≡ 0
 obeyed_clear c k = go (eqb c.why 0) refl
   where
     go : (b : Bool) → eqb c.why 0 ≡ b → (pick b (pick (eqb k 0) c (record { at = k; why = 6; field = 0; number = 0 })) c).why ≡ 0 → c.why ≡ 0
@@ -110,7 +110,7 @@ obeyed_clear c k = go (eqb c.why 0) refl
     go false e ok = ok
 
 -- And the rule finds no fault where nothing is refused.
-pub obeyed_none : (c : Cursor) (k : ℕ) → (obeyed c k).why ≡ 0 → k ≡ 0
+pub obeyed_none : (c : Standing) (k : ℕ) → (obeyed c k).why ≡ 0 → k ≡ 0
 obeyed_none c k = go (eqb c.why 0) refl (eqb k 0) refl
   where
     go : (b : Bool) → eqb c.why 0 ≡ b → (t : Bool) → eqb k 0 ≡ t
@@ -128,7 +128,7 @@ module _ {A : Type 0} (good : List ℕ → A) (bad : Refusal → A) (fault : Lis
   unfolding read_list
   list_outside whole out = rw (eq-eqb _ _ whole, out)
 
-  module _ (words all : List ℕ) (d e f : Cursor)
+  module _ (words all : List ℕ) (d e f : Standing)
       (few : length rows < 2 ^ 32)
       (whole : length bytes ≡ 29)
       (inside : outside ≡ false)
@@ -165,7 +165,7 @@ module _ (fault : List ℕ → ℕ) (outside : Bool) (rows : List Row) (vals bef
       → denied r before ≡ fairly is_fair before (write_list fault outside rows vals before)
   fairly_unwritten is_fair r some e = rw (← e, some)
 
-  module _ (xs all ys : List ℕ) (d f : Cursor)
+  module _ (xs all ys : List ℕ) (d f : Standing)
       (few : length rows < 2 ^ 32)
       (whole : length before ≡ 29)
       (inside : outside ≡ false)
@@ -193,7 +193,7 @@ module _ (fault : List ℕ → ℕ) (outside : Bool) (rows : List Row) (vals bef
     pub list_written : {after : List ℕ} → Packed ys f before after → record { answer = met f; bytes = after } ≡ write_list fault outside rows vals before
     list_written packed = sym (says_written ∙ packed_answer xs ys before _ f (bits ++ zeros (232 - d.at)) packed drawn)
 
-    pub list_tallied : {after : List ℕ} (is_fair : Bool) (g : Cursor) → g ≡ tallied f is_fair → Packed ys g before after
+    pub list_tallied : {after : List ℕ} (is_fair : Bool) (g : Standing) → g ≡ tallied f is_fair → Packed ys g before after
         → record { answer = met g; bytes = after } ≡ fairly is_fair before (write_list fault outside rows vals before)
     list_tallied is_fair g last packed =
         sym

@@ -10,7 +10,7 @@ use lib.Seq.{length-take-le, take_all, take-suc-set}
 use Rattle.rows.specs.Row.{Row}
 use Rattle.rows.specs.Inner.Step.{Ready}
 use Rattle.rows.specs.Inner.Line.{Takes}
-use Rattle.rows.specs.declared.Cursor.{Cursor}
+use Rattle.rows.specs.Inner.Standing.{Standing}
 use Rattle.rows.proofs.Running.{takes_append}
 use Rattle.lists.specs.Inner.Steps.{EntryTook}
 
@@ -63,13 +63,13 @@ module _ {E : Type 0} (numbers : E → List ℕ) where
   seen_more count es ds e more = rw more (ap (λ (ns : List ℕ). count ∷ ns) (sym (flat_append es (e ∷ []) ∙ rw (flat_one e))))
 
 -- What a loop that takes every entry has come to before entry k, from the count and the cursor b on.
-pub record Taking {E : Type 0} (entry : ℕ → List Row) (numbers : E → List ℕ) (words : List ℕ) (count : ℕ) (b : Cursor) (es : List E) (c : Cursor) (k : ℕ) : Type 0 where
+pub record Taking {E : Type 0} (entry : ℕ → List Row) (numbers : E → List ℕ) (words : List ℕ) (count : ℕ) (b : Standing) (es : List E) (c : Standing) (k : ℕ) : Type 0 where
   pub upto : k ≤ length es
   pub ready : Ready words 232 c
   pub takes : Takes words 232 (rows_from entry 0 k) (count ∷ []) b (count ∷ flat numbers (take k es)) c
 
-module _ {E : Type 0} {entry : ℕ → List Row} {numbers : E → List ℕ} {words : List ℕ} {count : ℕ} {b : Cursor} {es : List E} {c : Cursor} {k : ℕ} (so : Taking entry numbers words count b es c k) where
-  pub taking_more : (size : ℕ) → ((e : E) → length (numbers e) ≡ size) → (e : E) (d : Cursor)
+module _ {E : Type 0} {entry : ℕ → List Row} {numbers : E → List ℕ} {words : List ℕ} {count : ℕ} {b : Standing} {es : List E} {c : Standing} {k : ℕ} (so : Taking entry numbers words count b es c k) where
+  pub taking_more : (size : ℕ) → ((e : E) → length (numbers e) ≡ size) → (e : E) (d : Standing)
       → k < length es
       → EntryTook words (entry k) (1 + size * k) count c (numbers e) d
       → Taking entry numbers words count b (set es k e) d (k + 1)

@@ -13,7 +13,7 @@ use Rattle.rows.specs.Row.{Row, pick}
 use Rattle.rows.specs.Walk.{done, refused, holding, read, write, slots}
 use Rattle.rows.specs.Inner.Step.{Kept, Packed}
 use Rattle.rows.specs.Inner.Line.{start, Taken, Puts, tells}
-use Rattle.rows.specs.declared.Cursor.{Cursor}
+use Rattle.rows.specs.Inner.Standing.{Standing}
 use Rattle.rows.proofs.Running.{takes_read, puts_walk, puts_refused, puts_kept}
 use Rattle.records.specs.Answer.{refusal, refusal_at, denied, written, answered, valued, content, read_record, write_record, area_length, read_area, write_area}
 use Rattle.records.specs.Inner.Met.{met}
@@ -26,7 +26,7 @@ eight_words bytes words cuts = sym (ap length cuts ∙ length_cut 32 64 8 (sprea
 pub all_words : (bytes words : List ℕ) → words ≡ cut 32 64 8 (spread 8 bytes) → words ≡ cut 32 64 (length words) (spread 8 bytes)
 all_words bytes words cuts = rw (← eight_words bytes words cuts) cuts
 
-module _ {A : Type 0} (good : List ℕ → List ℕ → A) (bad : Refusal → A) (rows : List Row) (bytes words all : List ℕ) (d : Cursor) where
+module _ {A : Type 0} (good : List ℕ → List ℕ → A) (bad : Refusal → A) (rows : List Row) (bytes words all : List ℕ) (d : Standing) where
   module _ {room : ℕ} (n : ℕ) (few : length rows < 2 ^ 32) (long : 8 * length bytes ≡ room)
       (cuts : words ≡ cut 32 64 (length words) (spread 8 bytes))
       (taken : Taken words room rows [] start all d) where
@@ -90,7 +90,7 @@ area_room n = go (eqb n 29) refl (eqb n 58) refl (eqb n 87) refl
     go false _ false _ false _ h = let e : n ≡ 116 = eqb-true n 116 h in omega arith
 
 -- What the end of a writing leaves in the bytes, and the answer: of a draft that has the bits written where the cursor met nothing.
-pub packed_answer : (xs ys before after : List ℕ) (c : Cursor) (bits : List Bool)
+pub packed_answer : (xs ys before after : List ℕ) (c : Standing) (bits : List Bool)
     → Packed ys c before after
     → (c.why ≡ 0 → ys ≡ cut 32 32 (length xs) bits)
     → written before (tells c bits) ≡ record { answer = met c; bytes = after }
@@ -106,7 +106,7 @@ packed_answer xs ys before after c bits packed drawn = go (eqb c.why 0) refl
         rw (← bytes)
     go false e = rw (packed.kept (eqb-false _ _ e))
 
-module _ (rows : List Row) (vals margin xs all ys before : List ℕ) (d : Cursor) (few : length rows < 2 ^ 32)
+module _ (rows : List Row) (vals margin xs all ys before : List ℕ) (d : Standing) (few : length rows < 2 ^ 32)
     (sized : length vals ≡ slots rows)
     (empty : xs ≡ cut 32 32 (length xs) []) where
   -- A writing that is refused at a field leaves the bytes,
@@ -127,7 +127,7 @@ module _ (rows : List Row) (vals margin xs all ys before : List ℕ) (d : Cursor
   area_unput whole puts why = rw whole (sym (says_unput puts why))
 
   -- and one that comes to its end gives what the margin's put gives.
-  module _ (zs after : List ℕ) (e : Cursor) (ok : d.why ≡ 0) (packed : Packed zs e before after) where
+  module _ (zs after : List ℕ) (e : Standing) (ok : d.why ≡ 0) (packed : Packed zs e before after) where
     says_written : {room : ℕ} → Puts room vals rows [] xs start all ys d → Kept ys zs room d (spread 64 margin) e
         → written before (write rows room (content vals margin)) ≡ record { answer = met e; bytes = after }
     says_written {room} puts kept =

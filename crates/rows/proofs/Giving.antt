@@ -1,5 +1,6 @@
 -- What shows that a put of a field, of whatever boxes and rule, is the step that the field's row means.
-use Rattle.std.proofs.Common.{◌≡◌, ℕ, zero, suc, ◌+◌, ◌-◌, ◌*◌, ◌/◌, ◌^◌, ◌<◌, ◌≤◌, Bool, true, false, ◌||◌, eqb, ltb, List, [], ◌∷◌, ◌++◌, map, length, get_or, take, drop, replicate, sym, refl, ap, ◌∙◌, true≢false, append_assoc, append-nil, add-one, arith, length-append, length-take-le, drop-cons, take-suc, pow_pos, ltb-true, lt-ltb, eq-eqb, ne_eqb}
+use Rattle.std.proofs.Common.{◌≡◌, ℕ, zero, suc, ◌+◌, ◌*◌, ◌/◌, ◌^◌, ◌<◌, ◌≤◌, Bool, true, false, ◌||◌, eqb, ltb, List, [], ◌∷◌, ◌++◌, map, length, get_or, take, replicate, sym, refl, ap, ◌∙◌, true≢false, append_assoc, append-nil, add-one, arith, length-append, length-take-le, take-suc, pow_pos, ltb-true, lt-ltb, eq-eqb, ne_eqb}
+use Rattle.std.specs.List.{list_any}
 use lib.ListN.{length-replicate}
 use Rattle.bits.specs.Bits.{bits_of, cut, number}
 use Rattle.bits.proofs.Spelling.{length-bits_of, number_append, number-bits_of, bits_of_number}
@@ -8,13 +9,13 @@ use Rattle.rows.proofs.Stepping.{Clear, admit_step, admitted_clear, admitted_wit
 use Rattle.rows.specs.Row.{pick, holds, broken}
 use Rattle.rows.specs.Walk.{total, there, exceeds, slots_of, laid_on}
 use Rattle.rows.specs.Inner.Step.{stays, settled, admitted, resume, Drafted, Gave, Lays, LaidAll}
-use Rattle.rows.specs.declared.Cursor.{Cursor}
+use Rattle.rows.specs.Inner.Standing.{Standing}
 use Rattle.rows.specs.declared.When.{When}
 use Rattle.rows.specs.declared.Rule.{Rule}
 use Rattle.rows.specs.declared.Rule.TheVariants.{Any, Tariff}
 
 -- A put is shown by what the draft holds where there is no fault.
-pub gave : (xs ys : List ℕ) (room : ℕ) (c : Cursor) (t : When) (ws : List ℕ) (rule : Rule) (vs : List ℕ) (W : ℕ) (wide : Bool) (n : ℕ) (d : Cursor)
+pub gave : (xs ys : List ℕ) (room : ℕ) (c : Standing) (t : When) (ws : List ℕ) (rule : Rule) (vs : List ℕ) (W : ℕ) (wide : Bool) (n : ℕ) (d : Standing)
     → Drafted xs room c
     → length ys ≡ length xs
     → length vs ≡ length ws
@@ -48,7 +49,7 @@ gave xs ys room c t ws rule vs W wide n d ready long sized width exceeding ruled
     clear ok = admitted_clear c room W wide n 0 (rw is at ok)
 
     moved : d.why ≡ 0 → d.at ≡ c.at + W
-    moved ok = ap (λ (x : Cursor). x.at) is ∙ (clear ok).moved
+    moved ok = ap (λ (x : Standing). x.at) is ∙ (clear ok).moved
 
 -- Numbers that were found to fit their boxes do.
 fits_cons : (w v : ℕ) (ws vs : List ℕ) → exceeds (w ∷ ws) (v ∷ vs) ≡ false → (v < 2 ^ w) × (exceeds ws vs ≡ false)
@@ -59,7 +60,7 @@ fits_cons w v ws vs e = go (ltb v (2 ^ w)) refl e
     go false e f = absurd (true≢false f)
 
 -- After a refusal nothing is put.
-pub gave_refused : (xs : List ℕ) (room : ℕ) (c : Cursor) (t : When) (ws : List ℕ) (rule : Rule) (vs : List ℕ)
+pub gave_refused : (xs : List ℕ) (room : ℕ) (c : Standing) (t : When) (ws : List ℕ) (rule : Rule) (vs : List ℕ)
     → Drafted xs room c
     → (c.why ≡ 0 → ⊥)
     → Gave xs xs room c t ws rule vs c
@@ -89,7 +90,7 @@ laid_none out [] vs = refl
 laid_none out (w ∷ ws) [] = refl
 laid_none out (w ∷ ws) (v ∷ vs) = laid_none (out ++ []) ws vs ∙ append-nil out
 
-pub gave_absent : (xs : List ℕ) (room : ℕ) (c : Cursor) (t : When) (ws : List ℕ) (rule : Rule) (vs : List ℕ) (wide : Bool) (d : Cursor)
+pub gave_absent : (xs : List ℕ) (room : ℕ) (c : Standing) (t : When) (ws : List ℕ) (rule : Rule) (vs : List ℕ) (wide : Bool) (d : Standing)
     → Drafted xs room c
     → length vs ≡ length ws
     → c.why ≡ 0
@@ -109,7 +110,7 @@ gave_absent xs room c t ws rule vs wide d ready sized clear absent exceeding is 
     go false e = rw (ap (broken rule) (zeros_fit ws vs sized (sym e)) ∙ broken_none rule ws) (admitted_none c room ready.within clear)
 
 -- A field wider than its room, of no number.
-pub gave_past : (xs : List ℕ) (room : ℕ) (c : Cursor) (t : When) (w : ℕ) (d : Cursor)
+pub gave_past : (xs : List ℕ) (room : ℕ) (c : Standing) (t : When) (w : ℕ) (d : Standing)
     → Drafted xs room c
     → room < w
     → c.why ≡ 0
@@ -120,9 +121,9 @@ gave_past xs room c t w d ready wide clear present is =
     gave xs xs room c t (w ∷ []) Any (0 ∷ []) w false 0 d ready refl refl
     (rw present (omega arith)) (rw (present, lt-ltb 0 (2 ^ w) (pow_pos w))) refl
     (is ∙ admitted_past c room w clear (omega arith))
-    (λ ok. let two : d.why ≡ 2 = ap (λ (x : Cursor). x.why) is in absurd (omega arith))
+    (λ ok. let two : d.why ≡ 2 = ap (λ (x : Standing). x.why) is in absurd (omega arith))
 
-pub gave_box : (xs ys : List ℕ) (room : ℕ) (c : Cursor) (t : When) (w : ℕ) (rule : Rule) (v : ℕ) (wide : Bool) (n : ℕ) (d : Cursor)
+pub gave_box : (xs ys : List ℕ) (room : ℕ) (c : Standing) (t : When) (w : ℕ) (rule : Rule) (v : ℕ) (wide : Bool) (n : ℕ) (d : Standing)
     → Drafted xs room c
     → length ys ≡ length xs
     → holds t ≡ true
@@ -136,7 +137,7 @@ gave_box xs ys room c t w rule v wide n d within long present exceeding ruled is
     (λ ok out at drafted. rw present (laid ok out at drafted))
 
 -- Where there is no fault, a box can be laid.
-pub lays : (xs : List ℕ) (room : ℕ) (c : Cursor) (h v : ℕ) (wide : Bool) (n : ℕ) (d : Cursor)
+pub lays : (xs : List ℕ) (room : ℕ) (c : Standing) (h v : ℕ) (wide : Bool) (n : ℕ) (d : Standing)
     → Drafted xs room c
     → h ≤ 32
     → wide ≡ exceeds (h ∷ []) (v ∷ [])
@@ -169,7 +170,7 @@ packs key kind priority fits =
     bits = bits_of 4 key ++ (bits_of 8 kind ++ bits_of 4 priority)
 
 -- Where there is no fault, a tariff can be packed and laid.
-pub packs_clear : (room : ℕ) (c : Cursor) (key kind priority : ℕ) (wide : Bool) (n : ℕ) (d : Cursor)
+pub packs_clear : (room : ℕ) (c : Standing) (key kind priority : ℕ) (wide : Bool) (n : ℕ) (d : Standing)
     → wide ≡ exceeds (4 ∷ 8 ∷ 4 ∷ []) (key ∷ kind ∷ priority ∷ [])
     → d ≡ admitted c room 16 wide n 0
     → d.why ≡ 0
@@ -177,7 +178,7 @@ pub packs_clear : (room : ℕ) (c : Cursor) (key kind priority : ℕ) (wide : Bo
 packs_clear room c key kind priority wide n d exceeding is ok =
     packs key kind priority (sym exceeding ∙ (admitted_clear c room 16 wide n 0 (rw is at ok)).narrow)
 
-pub gave_tariff : (xs ys : List ℕ) (room : ℕ) (c : Cursor) (t : When) (key kind priority : ℕ) (wide : Bool) (n : ℕ) (d : Cursor)
+pub gave_tariff : (xs ys : List ℕ) (room : ℕ) (c : Standing) (t : When) (key kind priority : ℕ) (wide : Bool) (n : ℕ) (d : Standing)
     → Drafted xs room c
     → length ys ≡ length xs
     → holds t ≡ true
@@ -191,17 +192,12 @@ gave_tariff xs ys room c t key kind priority wide n d within long present exceed
     (rw present) (rw present exceeding) ruled is
     (λ ok out at drafted. rw (present, (packs_clear room c key kind priority wide n d exceeding is ok).spelt out) (laid ok out at drafted))
 
--- Letters from i on: the first is too wide, or one behind it.
-pub any_more : (w : ℕ) (letters : List ℕ) (i : ℕ) (wide : Bool)
-    → i < length letters
-    → wide ≡ exceeds (w ∷ []) (get_or letters i 0 ∷ [])
-    → exceeds (replicate (length letters) w) letters ≡ exceeds (replicate (length letters - i) w) (drop i letters)
-    → exceeds (replicate (length letters) w) letters ≡ wide || exceeds (replicate (length letters - (i + 1)) w) (drop (i + 1) letters)
-any_more w letters i wide h one so =
-    let left : length letters - i ≡ suc (length letters - (i + 1)) = omega arith in
-    so ∙ rw (left, drop-cons letters i 0 h, ← add-one i, one) (go (ltb (get_or letters i 0) (2 ^ w)) _)
+-- One of some letters is too wide for its box where some letter alone is.
+pub some_wide : (w : ℕ) (letters : List ℕ) → list_any (λ v. exceeds (w ∷ []) (v ∷ [])) letters ≡ exceeds (replicate (length letters) w) letters
+some_wide w [] = refl
+some_wide w (v ∷ letters) = rw (some_wide w letters) (go (ltb v (2 ^ w)) _)
   where
-    go : (a b : Bool) → pick a b true ≡ pick a false true || b
+    go : (a b : Bool) → pick a false true || b ≡ pick a b true
     go true b = refl
     go false b = refl
 
@@ -236,7 +232,7 @@ laid_more xs ys zs at w letters i place h long here so lay = λ out start drafte
     rw (add-one, take-suc letters i 0 h, laid_snoc out w (take i letters) (get_or letters i 0), ← long)
     (lay (laid_on out (replicate (length (take i letters)) w) (take i letters)) reached (rw long (so out start drafted)))
 
-pub gave_text : (xs ys : List ℕ) (room : ℕ) (c : Cursor) (t : When) (letters : List ℕ) (wide : Bool) (d : Cursor)
+pub gave_text : (xs ys : List ℕ) (room : ℕ) (c : Standing) (t : When) (letters : List ℕ) (wide : Bool) (d : Standing)
     → Drafted xs room c
     → length ys ≡ length xs
     → holds t ≡ true
@@ -251,7 +247,7 @@ gave_text xs ys room c t letters wide d within long present exceeding is laid =
     (λ ok out at drafted. rw present (laid ok out at drafted))
 
 -- Where there is no fault, letters can be laid.
-pub lays_all : (xs : List ℕ) (room : ℕ) (c : Cursor) (letters : List ℕ) (wide : Bool) (d : Cursor)
+pub lays_all : (xs : List ℕ) (room : ℕ) (c : Standing) (letters : List ℕ) (wide : Bool) (d : Standing)
     → Drafted xs room c
     → room < 2 ^ 32
     → wide ≡ exceeds (replicate (length letters) 5) letters

@@ -9,7 +9,7 @@ use Rattle.bits.proofs.Clearing.{leading_zeros, leading-append-zeros, leading_fr
 use Rattle.rows.specs.Row.{pick}
 use Rattle.rows.specs.Walk.{refused, blank, stray}
 use Rattle.rows.specs.Inner.Step.{Kept}
-use Rattle.rows.specs.declared.Cursor.{Cursor}
+use Rattle.rows.specs.Inner.Standing.{Standing}
 use Rattle.rows.proofs.RoundTrip.{blank_zeros}
 
 -- The first one, looked for among the first bits; none there; and none at all.
@@ -146,7 +146,7 @@ unfolding blank
 blank_first n bs a end first is h = rw (is, ne_eqb first (length bs) (λ e. omega arith))
 
 -- The cursor of a one that is out of place.
-abbrev pub away : ℕ → Cursor
+abbrev pub away : ℕ → Standing
 away place = record { at = place; why = 7; field = 0; number = 0 }
 
 -- With no one past the room the bits up to it are all that counts.
@@ -161,7 +161,7 @@ no_tail n room at out m inside none =
     ap (λ (l : List Bool). cut 32 32 n (out ++ l)) (sym split) ∙ rw (← append_assoc) (cut_pad 32 32 n k (out ++ kept))
 
 -- A margin is put where no one is out of place,
-pub kept : (xs ys : List ℕ) (room : ℕ) (c : Cursor) (m : List Bool) (first past : ℕ)
+pub kept : (xs ys : List ℕ) (room : ℕ) (c : Standing) (m : List Bool) (first past : ℕ)
     → length ys ≡ length xs
     → c.why ≡ 0
     → c.at ≤ room
@@ -179,7 +179,7 @@ kept xs ys room c m first past long clear inside is after is' none laid =
     }
 
 -- as where it has none,
-pub kept_none : (xs : List ℕ) (room : ℕ) (c : Cursor) (ws : List ℕ) → c.why ≡ 0 → c.at ≤ room → room ≤ 64 * length ws
+pub kept_none : (xs : List ℕ) (room : ℕ) (c : Standing) (ws : List ℕ) → c.why ≡ 0 → c.at ≤ room → room ≤ 64 * length ws
     → leading (spread 64 ws) ≡ 64 * length ws
     → Kept xs xs room c (spread 64 ws) c
 kept_none xs room c ws clear inside fits none =
@@ -193,7 +193,7 @@ kept_none xs room c ws clear inside fits none =
     (λ out before drafted. rw (behind (length out), cut_pad 32 32 (length xs) (n - length out) out) drafted)
 
 -- and not where one is in a field's place or past the room.
-pub kept_first : (xs : List ℕ) (room : ℕ) (c : Cursor) (m : List Bool) (first : ℕ) → c.at ≤ room → room ≤ length m
+pub kept_first : (xs : List ℕ) (room : ℕ) (c : Standing) (m : List Bool) (first : ℕ) → c.at ≤ room → room ≤ length m
     → first ≡ 0 + leading m
     → first < c.at
     → Kept xs xs room c m (away first)
@@ -204,7 +204,7 @@ kept_first xs room c m first inside long is h =
       laid = λ ok. absurd (omega arith);
     }
 
-pub kept_past : (xs : List ℕ) (room : ℕ) (c : Cursor) (m : List Bool) (first past : ℕ) → c.at ≤ room → room ≤ length m
+pub kept_past : (xs : List ℕ) (room : ℕ) (c : Standing) (m : List Bool) (first past : ℕ) → c.at ≤ room → room ≤ length m
     → first ≡ 0 + leading m
     → c.at ≤ first
     → past ≡ room + leading (drop room m)

@@ -5,21 +5,21 @@ use Rattle.rows.specs.Row.{Row, Cond, told}
 use Rattle.rows.specs.Walk.{slots}
 use Rattle.rows.specs.Inner.Step.{Gave}
 use Rattle.rows.specs.Inner.Line.{Puts, given, ◌◂◌}
-use Rattle.rows.specs.declared.Cursor.{Cursor}
+use Rattle.rows.specs.Inner.Standing.{Standing}
 use Rattle.rows.specs.declared.Rule.{Rule}
 
 infixr 20 ◌◃◌
 -- Puts of the rows behind the first n of the numbers vals.
-pub data PutsFrom (room : ℕ) (vals : List ℕ) : List Row → ℕ → List ℕ → Cursor → List ℕ → Cursor → Type 0 where
-  all_put : {n : ℕ} {xs : List ℕ} {c : Cursor} → PutsFrom room vals [] n xs c xs c
+pub data PutsFrom (room : ℕ) (vals : List ℕ) : List Row → ℕ → List ℕ → Standing → List ℕ → Standing → Type 0 where
+  all_put : {n : ℕ} {xs : List ℕ} {c : Standing} → PutsFrom room vals [] n xs c xs c
   ◌◃◌ :
-      {ws : List ℕ} {k : Cond} {rule : Rule} {rs : List Row} {n : ℕ} {xs : List ℕ} {c : Cursor} {zs : List ℕ} {e : Cursor} {ys : List ℕ} {d : Cursor}
+      {ws : List ℕ} {k : Cond} {rule : Rule} {rs : List Row} {n : ℕ} {xs : List ℕ} {c : Standing} {zs : List ℕ} {e : Standing} {ys : List ℕ} {d : Standing}
       → Gave xs zs room c (told k (take n vals)) ws rule (take (length ws) (drop n vals)) e
       → PutsFrom room vals rs (n + length ws) zs e ys d
       → PutsFrom room vals (record { boxes = ws; cond = k; rule = rule } ∷ rs) n xs c ys d
 
 -- It is a line of puts.
-pub puts_from : {room : ℕ} {vals : List ℕ} {rows : List Row} (n : ℕ) {xs : List ℕ} {c : Cursor} {ys : List ℕ} {d : Cursor}
+pub puts_from : {room : ℕ} {vals : List ℕ} {rows : List Row} (n : ℕ) {xs : List ℕ} {c : Standing} {ys : List ℕ} {d : Standing}
     → PutsFrom room vals rows n xs c ys d
     → n + slots rows ≤ length vals
     → Puts room vals rows (take n vals) xs c (take (n + slots rows) vals) ys d

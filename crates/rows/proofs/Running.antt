@@ -8,14 +8,14 @@ use Rattle.rows.specs.Row.{Row, Cond, pick, told, holds}
 use Rattle.rows.specs.Walk.{Outcome, done, refused, and_then, walk, there, boxes_at, slots_of, frame_on, frame, laid_on, slots, holding, blank, read, read_bare, write, write_bare}
 use Rattle.rows.specs.Inner.Step.{passes, resume, Ready, Took, Ended, Kept}
 use Rattle.rows.specs.Inner.Line.{start, Takes, taken, ◌▸◌, Puts, given, ◌◂◌, tells}
-use Rattle.rows.specs.declared.Cursor.{Cursor}
+use Rattle.rows.specs.Inner.Standing.{Standing}
 use Rattle.rows.specs.declared.Rule.{Rule}
 use Rattle.rows.proofs.Boxes.{length_there, laid_append}
 use Rattle.rows.proofs.RoundTrip.{bare_writes}
 use Rattle.rows.proofs.Taking.{took_refused, took_absent, ended_there}
 
 module _ (words : List ℕ) (end : ℕ) (bs : List Bool) (long : length bs ≡ end) (cuts : words ≡ cut 32 64 (length words) bs) where
-  takes_run : {rows : List Row} {seen : List ℕ} {c : Cursor} {all : List ℕ} {d : Cursor}
+  takes_run : {rows : List Row} {seen : List ℕ} {c : Standing} {all : List ℕ} {d : Standing}
       → c.field + length rows < 2 ^ 32
       → Takes words end rows seen c all d
       → resume end (boxes_at bs) rows seen c ≡ resume end (boxes_at bs) [] all d
@@ -24,7 +24,7 @@ module _ (words : List ℕ) (end : ℕ) (bs : List Bool) (long : length bs ≡ e
       took.step bs long cuts k rs seen refl (omega arith) ∙ takes_run (omega (arith, took.counted)) rest
 
   -- A whole reading: the numbers, and the margin behind them,
-  pub takes_read : (rows : List Row) (all : List ℕ) (d : Cursor)
+  pub takes_read : (rows : List Row) (all : List ℕ) (d : Standing)
       → length rows < 2 ^ 32
       → Takes words end rows [] start all d
       → read rows bs ≡ tells d (holding bs all d.at)
@@ -40,7 +40,7 @@ module _ (words : List ℕ) (end : ℕ) (bs : List Bool) (long : length bs ≡ e
       go false = refl
 
   -- and of a list, with its end.
-  pub takes_bare : (rows : List Row) (all : List ℕ) (d e : Cursor)
+  pub takes_bare : (rows : List Row) (all : List ℕ) (d e : Standing)
       → length rows < 2 ^ 32
       → Takes words end rows [] start all d
       → Ended words end d e
@@ -60,7 +60,7 @@ module _ (words : List ℕ) (end : ℕ) (bs : List Bool) (long : length bs ≡ e
 
 module _ (room : ℕ) where
   -- What the numbers put come to, and the draft where there was no fault.
-  pub record Ran (vals : List ℕ) (rows : List Row) (seen rest xs : List ℕ) (c : Cursor) (ys : List ℕ) (d : Cursor) : Type 0 where
+  pub record Ran (vals : List ℕ) (rows : List Row) (seen rest xs : List ℕ) (c : Standing) (ys : List ℕ) (d : Standing) : Type 0 where
     pub comes : resume room (slots_of vals) rows seen c ≡ resume room (slots_of vals) [] vals d
     pub before : d.why ≡ 0 → c.why ≡ 0
     pub laid :
@@ -71,7 +71,7 @@ module _ (room : ℕ) where
         → (length (laid_on out (frame_on rows seen rest) rest) ≡ d.at)
         × (ys ≡ cut 32 32 (length xs) (laid_on out (frame_on rows seen rest) rest))
 
-  puts_run : (vals : List ℕ) {rows : List Row} {seen : List ℕ} (rest : List ℕ) {xs : List ℕ} {c : Cursor} {all ys : List ℕ} {d : Cursor}
+  puts_run : (vals : List ℕ) {rows : List Row} {seen : List ℕ} (rest : List ℕ) {xs : List ℕ} {c : Standing} {all ys : List ℕ} {d : Standing}
       → vals ≡ seen ++ rest
       → length rest ≡ slots rows
       → c.field + length rows < 2 ^ 32
@@ -103,12 +103,12 @@ module _ (room : ℕ) where
       }
 
   -- A whole line of puts: what its walk comes to, and the draft where there was no fault.
-  pub record Walks (rows : List Row) (vals xs ys : List ℕ) (d : Cursor) : Type 0 where
+  pub record Walks (rows : List Row) (vals xs ys : List ℕ) (d : Standing) : Type 0 where
     pub says : walk room (slots_of vals) rows 0 [] 0 ≡ tells d vals
     pub fills : d.why ≡ 0 → length (laid_on [] (frame rows vals) vals) ≡ d.at
     pub drawn : d.why ≡ 0 → ys ≡ cut 32 32 (length xs) (laid_on [] (frame rows vals) vals)
 
-  pub puts_walk : (rows : List Row) (vals xs all ys : List ℕ) (d : Cursor)
+  pub puts_walk : (rows : List Row) (vals xs all ys : List ℕ) (d : Standing)
       → length rows < 2 ^ 32
       → length vals ≡ slots rows
       → xs ≡ cut 32 32 (length xs) []
@@ -120,7 +120,7 @@ module _ (room : ℕ) where
       record { says = ran.comes; fills = λ ok. (ran.laid ok [] refl empty).0; drawn = λ ok. (ran.laid ok [] refl empty).1 }
 
   -- A list's writing: zeros behind the boxes.
-  pub puts_bare : (rows : List Row) (vals xs ys : List ℕ) (d : Cursor) → Walks rows vals xs ys d
+  pub puts_bare : (rows : List Row) (vals xs ys : List ℕ) (d : Standing) → Walks rows vals xs ys d
       → write_bare rows room vals ≡ tells d (laid_on [] (frame rows vals) vals ++ zeros (room - d.at))
   puts_bare rows vals xs ys d w =
       bare_writes rows room vals
@@ -134,14 +134,14 @@ module _ (room : ℕ) where
       go false = refl
 
   -- A writing that is refused at a field,
-  pub puts_refused : (rows : List Row) (vals xs ys : List ℕ) (m : List Bool) (d : Cursor) → Walks rows vals xs ys d
+  pub puts_refused : (rows : List Row) (vals xs ys : List ℕ) (m : List Bool) (d : Standing) → Walks rows vals xs ys d
       → (d.why ≡ 0 → ⊥)
       → write rows room (record { numbers = vals; margin = m }) ≡ refused d.why d.at (d.field - 1)
   unfolding write
   puts_refused rows vals xs ys m d w why = rw (w.says, ne_eqb _ _ why)
 
   -- and one with its margin.
-  pub puts_kept : (rows : List Row) (vals xs ys zs : List ℕ) (m : List Bool) (d e : Cursor) → Walks rows vals xs ys d
+  pub puts_kept : (rows : List Row) (vals xs ys zs : List ℕ) (m : List Bool) (d e : Standing) → Walks rows vals xs ys d
       → d.why ≡ 0
       → Kept ys zs room d m e
       → (write rows room (record { numbers = vals; margin = m }) ≡ tells e (laid_on [] (frame rows vals) vals ++ take (room - d.at) (drop d.at m)))
@@ -155,7 +155,7 @@ module _ (room : ℕ) where
       )
 
 -- Two lines of takes are one.
-pub takes_append : {words : List ℕ} {end : ℕ} {rows more : List Row} {seen : List ℕ} {c : Cursor} {some : List ℕ} {d : Cursor} {all : List ℕ} {e : Cursor}
+pub takes_append : {words : List ℕ} {end : ℕ} {rows more : List Row} {seen : List ℕ} {c : Standing} {some : List ℕ} {d : Standing} {all : List ℕ} {e : Standing}
     → Takes words end rows seen c some d
     → Takes words end more some d all e
     → Takes words end (rows ++ more) seen c all e
@@ -163,14 +163,14 @@ takes_append taken rest = rest
 takes_append (took ▸ others) rest = took ▸ takes_append others rest
 
 -- Puts leave a draft as long as it was.
-pub puts_long : {room : ℕ} {vals : List ℕ} {rows : List Row} {seen xs : List ℕ} {c : Cursor} {all ys : List ℕ} {d : Cursor}
+pub puts_long : {room : ℕ} {vals : List ℕ} {rows : List Row} {seen xs : List ℕ} {c : Standing} {all ys : List ℕ} {d : Standing}
     → Puts room vals rows seen xs c all ys d
     → length ys ≡ length xs
 puts_long given = refl
 puts_long (gave ◂ rest) = puts_long rest ∙ gave.long
 
 -- Two lines of puts are one.
-pub puts_append : {room : ℕ} {vals : List ℕ} {rows more : List Row} {seen xs : List ℕ} {c : Cursor} {some ys : List ℕ} {d : Cursor} {all zs : List ℕ} {e : Cursor}
+pub puts_append : {room : ℕ} {vals : List ℕ} {rows more : List Row} {seen xs : List ℕ} {c : Standing} {some ys : List ℕ} {d : Standing} {all zs : List ℕ} {e : Standing}
     → Puts room vals rows seen xs c some ys d
     → Puts room vals more some ys d all zs e
     → Puts room vals (rows ++ more) seen xs c all zs e
@@ -178,7 +178,7 @@ puts_append given rest = rest
 puts_append (gave ◂ others) rest = gave ◂ puts_append others rest
 
 -- After a refusal the rest of a table changes nothing.
-pub stopped : {words : List ℕ} {end : ℕ} {c : Cursor} → Ready words end c → (c.why ≡ 0 → ⊥)
+pub stopped : {words : List ℕ} {end : ℕ} {c : Standing} → Ready words end c → (c.why ≡ 0 → ⊥)
     → (rows : List Row) (seen : List ℕ)
     → Takes words end rows seen c seen c
 stopped ready why [] seen = taken
@@ -187,14 +187,14 @@ stopped {words} {end} {c} ready why (r ∷ rs) seen =
     took_refused words end c _ r.boxes r.rule [] ready why ▸ rest
 
 -- Takes of rows that are all absent: the cursor counts them, and stays where it is.
-pub record Skips (words : List ℕ) (end : ℕ) (rows : List Row) (seen : List ℕ) (c : Cursor) (all : List ℕ) : Type 0 where
-  pub last : Cursor
+pub record Skips (words : List ℕ) (end : ℕ) (rows : List Row) (seen : List ℕ) (c : Standing) (all : List ℕ) : Type 0 where
+  pub last : Standing
   pub takes : Takes words end rows seen c all last
   pub ready : Ready words end last
   pub clear : last.why ≡ 0
   pub here : last.at ≡ c.at
 
-module _ {words : List ℕ} {end : ℕ} {c : Cursor} where
+module _ {words : List ℕ} {end : ℕ} {c : Standing} where
   pub skips_none : Ready words end c → c.why ≡ 0 → (seen : List ℕ) → Skips words end [] seen c seen
   skips_none ready clear seen = record { last = c; takes = taken; ready = ready; clear = clear; here = refl }
 
@@ -202,7 +202,7 @@ module _ {words : List ℕ} {end : ℕ} {c : Cursor} where
       → Ready words end c
       → c.why ≡ 0
       → holds (told k seen) ≡ false
-      → ((d : Cursor) → Ready words end d → d.why ≡ 0 → Skips words end rs (seen ++ map (λ (w : ℕ). 0) ws) d all)
+      → ((d : Standing) → Ready words end d → d.why ≡ 0 → Skips words end rs (seen ++ map (λ (w : ℕ). 0) ws) d all)
       → Skips words end (record { boxes = ws; cond = k; rule = rule } ∷ rs) seen c all
   skips_more {ws} {k} {rule} {seen} ready clear absent rest =
       let took : Took words end c (told k seen) ws rule (map (λ (w : ℕ). 0) ws) (passes c 1 0 0) =
@@ -217,7 +217,7 @@ module _ {words : List ℕ} {end : ℕ} {c : Cursor} where
       }
 
   -- So the end of a reading behind them is that before them.
-  pub skips_ended : {rows : List Row} {seen all : List ℕ} (e : Cursor) (s : Skips words end rows seen c all)
+  pub skips_ended : {rows : List Row} {seen all : List ℕ} (e : Standing) (s : Skips words end rows seen c all)
       → c.why ≡ 0
       → Ended words end c e
       → Ended words end s.last e

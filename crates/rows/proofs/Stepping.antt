@@ -1,11 +1,14 @@
 -- One step of a walk in code is one step of its meaning: what `admit` makes of a cursor stands for the same answer.
-use Rattle.std.proofs.Common.{◌≡◌, ℕ, zero, suc, ◌+◌, ◌-◌, ◌*◌, ◌^◌, ◌<◌, ◌≤◌, Bool, true, false, eqb, ltb, List, [], ◌∷◌, ◌++◌, map, length, get_or, replicate, sym, refl, ap, ◌∙◌, mod-eq_of_lt, arith, ltb-false, le-ltb, lt-ltb, eq-eqb, eqb-true}
+use Rattle.std.proofs.Common.{◌≡◌, ◌≢◌, ℕ, zero, suc, ◌+◌, ◌-◌, ◌*◌, ◌^◌, ◌<◌, ◌≤◌, Bool, not, true, false, eqb, ltb, List, [], ◌∷◌, ◌++◌, map, length, get_or, replicate, sym, refl, ap, ◌∙◌, mod-eq_of_lt, arith, ltb-false, le-ltb, lt-ltb, eq-eqb, eqb-true}
 use native.Mathlib.Nat.{mod-le}
 use borrow.Author.Tests.{eqb-false}
+use Rattle.rows.specs.Why.{number_of}
+use Rattle.rows.specs.declared.Why.{Why}
+use Rattle.rows.specs.declared.Why.TheVariants.{WrongLength, PastEnd, Unknown, OutOfRange, LeftOver, ListRule, NoFit, NoneEligible, NoPosition, MustFall, OutsideLimits}
 use Rattle.rows.specs.Row.{Row, Cond, pick, told, holds, broken}
 use Rattle.rows.specs.Walk.{done, refused, and_then, Source, walk, field, total, there, exceeds, fault}
 use Rattle.rows.specs.Inner.Step.{further, stays, passes, settled, admitted, resume}
-use Rattle.rows.specs.declared.Cursor.{Cursor}
+use Rattle.rows.specs.Inner.Standing.{Standing}
 use Rattle.rows.specs.declared.When.{When}
 use Rattle.rows.specs.declared.Rule.{Rule}
 use Rattle.rows.specs.declared.Rule.TheVariants.{Any, Most, Tariff, NoSecond}
@@ -21,10 +24,10 @@ pub count_twice : (i : ℕ) → further 2 i ≡ further 1 (further 1 i)
 count_twice i = omega arith
 
 -- After a refusal only the number is another.
-abbrev kept : Cursor → ℕ → Cursor
+abbrev kept : Standing → ℕ → Standing
 kept c v = record { at = c.at; why = c.why; field = c.field; number = v }
 
-module _ (room : ℕ) (from : Source) (rs : List Row) (seen : List ℕ) (c : Cursor) (v : ℕ) (small : suc c.field < 2 ^ 32) where
+module _ (room : ℕ) (from : Source) (rs : List Row) (seen : List ℕ) (c : Standing) (v : ℕ) (small : suc c.field < 2 ^ 32) where
   -- One field's outcome, and the cursor that stands for it. The numbers count only where there is no fault.
   settled_fault : (W n : ℕ) (us vs : List ℕ) (b : Bool) → eqb n 0 ≡ b → (b ≡ true → us ≡ vs)
       → and_then (pick b (done us (c.at + W)) (refused n c.at c.field)) (λ us end. walk room from rs (suc c.field) (seen ++ us) end)
@@ -45,7 +48,7 @@ module _ (room : ℕ) (from : Source) (rs : List Row) (seen : List ℕ) (c : Cur
 
 -- What the source gives need agree with the code's numbers only where they count: the rule where the field has room, the
 -- numbers where it has no fault.
-pub admit_step : (room : ℕ) (from : Source) (c : Cursor) (t : When) (ws : List ℕ) (rule : Rule) (vs : List ℕ) (wide : Bool) (n v : ℕ)
+pub admit_step : (room : ℕ) (from : Source) (c : Standing) (t : When) (ws : List ℕ) (rule : Rule) (vs : List ℕ) (wide : Bool) (n v : ℕ)
     (k : Cond) (rs : List Row) (seen : List ℕ)
     → told k seen ≡ t
     → suc c.field < 2 ^ 32
@@ -77,21 +80,21 @@ admit_step room from c t ws rule vs wide n v k rs seen e small w ruled same = go
         (λ x p z. same (ltb-false _ _ p) (clear h x p z)))
 
 -- What a field without a fault tells.
-pub record Clear (c : Cursor) (room W : ℕ) (wide : Bool) (n at : ℕ) : Type 0 where
+pub record Clear (c : Standing) (room W : ℕ) (wide : Bool) (n at : ℕ) : Type 0 where
   pub before : c.why ≡ 0
   pub narrow : wide ≡ false
   pub inside : c.at + W ≤ room
   pub kept : n ≡ 0
   pub moved : at ≡ c.at + W
 
-pub admitted_clear : (c : Cursor) (room W : ℕ) (wide : Bool) (n v : ℕ)
+pub admitted_clear : (c : Standing) (room W : ℕ) (wide : Bool) (n v : ℕ)
     → (admitted c room W wide n v).why ≡ 0
     → Clear c room W wide n (admitted c room W wide n v).at
 admitted_clear c room W wide n v = go (eqb c.why 0) wide (ltb room (c.at + W)) refl refl
   where
     last : (z : Bool) → eqb n 0 ≡ z → c.why ≡ 0 → c.at + W ≤ room
-        → (pick {A = Cursor} z (passes c 1 W v) (stays c n v)).why ≡ 0
-        → Clear c room W false n (pick {A = Cursor} z (passes c 1 W v) (stays c n v)).at
+        → (pick {A = Standing} z (passes c 1 W v) (stays c n v)).why ≡ 0
+        → Clear c room W false n (pick {A = Standing} z (passes c 1 W v) (stays c n v)).at
     last true e before inside h = record { before = before; narrow = refl; inside = inside; kept = eqb-true n 0 e; moved = refl }
     last false e before inside h = absurd (eqb-false n 0 e h)
 
@@ -104,10 +107,10 @@ admitted_clear c room W wide n v = go (eqb c.why 0) wide (ltb room (c.at + W)) r
     go true false false e p h = last (eqb n 0) refl (eqb-true _ _ e) (ltb-false _ _ p) h
 
 -- A field is not passed by the end of its room.
-pub admitted_within : (c : Cursor) (room W : ℕ) (wide : Bool) (n v : ℕ) → c.at ≤ room → (admitted c room W wide n v).at ≤ room
+pub admitted_within : (c : Standing) (room W : ℕ) (wide : Bool) (n v : ℕ) → c.at ≤ room → (admitted c room W wide n v).at ≤ room
 admitted_within c room W wide n v h = go (eqb c.why 0) wide (ltb room (c.at + W)) refl
   where
-    last : (m : ℕ) (b : Bool) → c.at + W ≤ room → (pick {A = Cursor} b (passes c 1 W v) (stays c m v)).at ≤ room
+    last : (m : ℕ) (b : Bool) → c.at + W ≤ room → (pick {A = Standing} b (passes c 1 W v) (stays c m v)).at ≤ room
     last m true l = l
     last m false l = h
 
@@ -119,7 +122,7 @@ admitted_within c room W wide n v h = go (eqb c.why 0) wide (ltb room (c.at + W)
     go true false false e = last n (eqb n 0) (ltb-false _ _ e)
 
 -- What is the same of a cursor whatever becomes of a field: the number goes through as it is, the count rises by one at most.
-admitted_any : (P : Cursor → Type 0) (c : Cursor) (room W : ℕ) (wide : Bool) (n v : ℕ)
+admitted_any : (P : Standing → Type 0) (c : Standing) (room W : ℕ) (wide : Bool) (n v : ℕ)
     → P (passes c 1 W v)
     → ((m : ℕ) → P (stays c m v))
     → P (kept c v)
@@ -129,25 +132,25 @@ admitted_any P c room W wide n v on off before = go (eqb c.why 0) (eqb m 0)
     m : ℕ
     m = fault wide (c.at + W) room n
 
-    go : (a b : Bool) → P (pick {A = Cursor} a (pick b (passes c 1 W v) (stays c m v)) (kept c v))
+    go : (a b : Bool) → P (pick {A = Standing} a (pick b (passes c 1 W v) (stays c m v)) (kept c v))
     go false b = before
     go true false = off m
     go true true = on
 
-pub admitted_number : (c : Cursor) (room W : ℕ) (wide : Bool) (n v : ℕ) → (admitted c room W wide n v).number ≡ v
-admitted_number c room W wide n v = admitted_any (λ (d : Cursor). d.number ≡ v) c room W wide n v refl (λ m. refl) refl
+pub admitted_number : (c : Standing) (room W : ℕ) (wide : Bool) (n v : ℕ) → (admitted c room W wide n v).number ≡ v
+admitted_number c room W wide n v = admitted_any (λ (d : Standing). d.number ≡ v) c room W wide n v refl (λ m. refl) refl
 
-pub admitted_counted : (c : Cursor) (room W : ℕ) (wide : Bool) (n v : ℕ) → (admitted c room W wide n v).field ≤ suc c.field
+pub admitted_counted : (c : Standing) (room W : ℕ) (wide : Bool) (n v : ℕ) → (admitted c room W wide n v).field ≤ suc c.field
 admitted_counted c room W wide n v =
-    admitted_any (λ (d : Cursor). d.field ≤ suc c.field) c room W wide n v (count_most c.field) (λ m. count_most c.field) (omega arith)
+    admitted_any (λ (d : Standing). d.field ≤ suc c.field) c room W wide n v (count_most c.field) (λ m. count_most c.field) (omega arith)
 
 -- A field of no bits, and one that runs past the end.
-pub admitted_none : (c : Cursor) (room : ℕ) → c.at ≤ room → c.why ≡ 0 → passes c 1 0 0 ≡ admitted c room 0 false 0 0
+pub admitted_none : (c : Standing) (room : ℕ) → c.at ≤ room → c.why ≡ 0 → passes c 1 0 0 ≡ admitted c room 0 false 0 0
 admitted_none c room within clear =
     let here : c.at + 0 ≡ c.at = omega arith in
     rw (eq-eqb _ _ clear, here, le-ltb _ _ within)
 
-pub admitted_past : (c : Cursor) (room W : ℕ) → c.why ≡ 0 → room < c.at + W → stays c 2 0 ≡ admitted c room W false 0 0
+pub admitted_past : (c : Standing) (room W : ℕ) → c.why ≡ 0 → room < c.at + W → stays c 2 0 ≡ admitted c room W false 0 0
 admitted_past c room W clear long = rw (eq-eqb _ _ clear, lt-ltb _ _ long)
 
 pub map_none : (n w : ℕ) → map {B = ℕ} (λ (x : ℕ). 0) (replicate n w) ≡ replicate n 0
@@ -180,3 +183,31 @@ off b t e f = sym e ∙ f
 pub total_same : (n w : ℕ) → total (replicate n w) ≡ n * w
 total_same zero w = omega arith
 total_same (suc n) w = let rest = total_same n w in omega arith
+
+-- What code tests of a walk's refusal.
+pub numbered : (w : Why) → number_of w ≢ 0
+numbered WrongLength = λ e. cc
+numbered PastEnd = λ e. cc
+numbered Unknown = λ e. cc
+numbered OutOfRange = λ e. cc
+numbered LeftOver = λ e. cc
+numbered ListRule = λ e. cc
+numbered NoFit = λ e. cc
+numbered NoneEligible = λ e. cc
+numbered NoPosition = λ e. cc
+numbered MustFall = λ e. cc
+numbered OutsideLimits = λ e. cc
+
+pub halted : {b : Bool} {n : ℕ} → b ≡ not (eqb n 0) → b ≡ true → n ≢ 0
+halted {b} {n} e t = eqb-false n 0 (go (eqb n 0) (sym e ∙ t))
+  where
+    go : (q : Bool) → not q ≡ true → q ≡ false
+    go false h = refl
+    go true h = cc
+
+pub clear : {b : Bool} {n : ℕ} → b ≡ not (eqb n 0) → b ≡ false → n ≡ 0
+clear {b} {n} e f = eqb-true n 0 (go (eqb n 0) (sym e ∙ f))
+  where
+    go : (q : Bool) → not q ≡ false → q ≡ true
+    go true h = refl
+    go false h = cc

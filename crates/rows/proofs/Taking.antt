@@ -11,13 +11,13 @@ use Rattle.rows.proofs.Stepping.{admit_step, admitted_within, admitted_number, a
 use Rattle.rows.specs.Row.{pick, holds, broken}
 use Rattle.rows.specs.Walk.{total, there, numbers, boxes_at, blank}
 use Rattle.rows.specs.Inner.Step.{stays, passes, admitted, resume, Ready, Took, Ended, letters_at}
-use Rattle.rows.specs.declared.Cursor.{Cursor}
+use Rattle.rows.specs.Inner.Standing.{Standing}
 use Rattle.rows.specs.declared.When.{When}
 use Rattle.rows.specs.declared.Rule.{Rule}
 use Rattle.rows.specs.declared.Rule.TheVariants.{Any, Tariff}
 
 -- A take is shown by what its words hold: the rule's refusal where the field has room, its numbers where it has no fault.
-pub took : (words : List ℕ) (end : ℕ) (c : Cursor) (t : When) (ws : List ℕ) (rule : Rule) (vs : List ℕ) (W n v : ℕ) (d : Cursor)
+pub took : (words : List ℕ) (end : ℕ) (c : Standing) (t : When) (ws : List ℕ) (rule : Rule) (vs : List ℕ) (W n v : ℕ) (d : Standing)
     → Ready words end c
     → W ≡ total (there t ws)
     → ((bs : List Bool) → length bs ≡ end → words ≡ cut 32 64 (length words) bs → c.at + W ≤ end
@@ -36,7 +36,7 @@ took words end c t ws rule vs W n v d ready width holds is =
     }
 
 -- After a refusal nothing is taken.
-pub took_refused : (words : List ℕ) (end : ℕ) (c : Cursor) (t : When) (ws : List ℕ) (rule : Rule) (vs : List ℕ)
+pub took_refused : (words : List ℕ) (end : ℕ) (c : Standing) (t : When) (ws : List ℕ) (rule : Rule) (vs : List ℕ)
     → Ready words end c
     → (c.why ≡ 0 → ⊥)
     → Took words end c t ws rule vs c
@@ -49,7 +49,7 @@ pub numbers_none : (ws : List ℕ) (bs : List Bool) → numbers (map (λ (w : �
 numbers_none [] bs = refl
 numbers_none (w ∷ ws) bs = ap (λ (l : List ℕ). 0 ∷ l) (numbers_none ws bs)
 
-pub took_absent : (words : List ℕ) (end : ℕ) (c : Cursor) (t : When) (ws : List ℕ) (rule : Rule) (vs : List ℕ) (d : Cursor)
+pub took_absent : (words : List ℕ) (end : ℕ) (c : Standing) (t : When) (ws : List ℕ) (rule : Rule) (vs : List ℕ) (d : Standing)
     → Ready words end c
     → c.why ≡ 0
     → holds t ≡ false
@@ -65,7 +65,7 @@ took_absent words end c t ws rule vs d ready clear absent zeros is =
     (is ∙ admitted_none c end ready.within clear)
 
 -- A field that runs past the end.
-pub took_past : (words : List ℕ) (end : ℕ) (c : Cursor) (t : When) (ws : List ℕ) (rule : Rule) (vs : List ℕ) (d : Cursor)
+pub took_past : (words : List ℕ) (end : ℕ) (c : Standing) (t : When) (ws : List ℕ) (rule : Rule) (vs : List ℕ) (d : Standing)
     → Ready words end c
     → c.why ≡ 0
     → end < c.at + total (there t ws)
@@ -77,7 +77,7 @@ took_past words end c t ws rule vs d ready clear long is =
     (is ∙ admitted_past c end (total (there t ws)) clear long)
 
 -- What is read from the words is what the bits hold.
-held : (words : List ℕ) (end : ℕ) (c : Cursor) (h v : ℕ) (bs : List Bool)
+held : (words : List ℕ) (end : ℕ) (c : Standing) (h v : ℕ) (bs : List Bool)
     → Ready words end c
     → h ≤ 32
     → v ≡ number_at words c.at h
@@ -89,7 +89,7 @@ held words end c h v bs ready narrow reads long cuts room =
     let covered : c.at / 32 < length words = omega (arith, ready.within, ready.covered) in
     reads ∙ rw cuts (number_at_law (length words) bs c.at h covered narrow (rw long room))
 
-pub took_box : (words : List ℕ) (end : ℕ) (c : Cursor) (t : When) (w : ℕ) (rule : Rule) (v n : ℕ) (d : Cursor)
+pub took_box : (words : List ℕ) (end : ℕ) (c : Standing) (t : When) (w : ℕ) (rule : Rule) (v n : ℕ) (d : Standing)
     → Ready words end c
     → w ≤ 32
     → holds t ≡ true
@@ -98,7 +98,7 @@ pub took_box : (words : List ℕ) (end : ℕ) (c : Cursor) (t : When) (w : ℕ) 
     → d ≡ admitted c end w false n v
     → Took words end c t (w ∷ []) rule (d.number ∷ []) d
 took_box words end c t w rule v n d ready narrow present reads ruled is =
-    let gave : d.number ≡ v = ap (λ (x : Cursor). x.number) is ∙ admitted_number c end w false n v in
+    let gave : d.number ≡ v = ap (λ (x : Standing). x.number) is ∙ admitted_number c end w false n v in
     subst (λ (x : ℕ). Took words end c t (w ∷ []) rule (x ∷ []) d) (sym gave)
     (took words end c t (w ∷ []) rule (v ∷ []) w n v d ready
     (rw present (omega arith))
@@ -127,7 +127,7 @@ tariff_held ds v long e =
     ap (λ (l : List Bool). number (take 4 l)) (drop-drop 8 4 ds) ∙ part_of ds 16 12 4 0 refl long ∙ rw (← e) (omega arith) in
     rw (key, type, priority)
 
-pub took_tariff : (words : List ℕ) (end : ℕ) (c : Cursor) (t : When) (v n : ℕ) (d : Cursor)
+pub took_tariff : (words : List ℕ) (end : ℕ) (c : Standing) (t : When) (v n : ℕ) (d : Standing)
     → Ready words end c
     → holds t ≡ true
     → v ≡ number_at words c.at 16
@@ -146,7 +146,7 @@ took_tariff words end c t v n d ready present reads ruled is =
     is
 
 -- The same of numbers that were read with others, as parts of one: what the bits hold is shown otherwise.
-pub held_part : (words : List ℕ) (end : ℕ) (c : Cursor) (h v o w r : ℕ) (bs : List Bool)
+pub held_part : (words : List ℕ) (end : ℕ) (c : Standing) (h v o w r : ℕ) (bs : List Bool)
     → Ready words end c
     → h ≤ 32
     → o + w + r ≡ h
@@ -159,7 +159,7 @@ held_part words end c h v o w r bs ready narrow parts reads long cuts room =
     rw (held words end c h v bs ready narrow reads long cuts room, ← drop-drop o c.at bs)
     (sym (part_of (drop c.at bs) h o w r parts (rw (length-drop c.at bs) (omega arith))))
 
-pub took_box_held : (words : List ℕ) (end : ℕ) (c : Cursor) (t : When) (w : ℕ) (rule : Rule) (v n x : ℕ) (d : Cursor)
+pub took_box_held : (words : List ℕ) (end : ℕ) (c : Standing) (t : When) (w : ℕ) (rule : Rule) (v n x : ℕ) (d : Standing)
     → Ready words end c
     → holds t ≡ true
     → ((bs : List Bool) → length bs ≡ end → words ≡ cut 32 64 (length words) bs → v ≡ number (take w (drop c.at bs)))
@@ -174,7 +174,7 @@ took_box_held words end c t w rule v n x d ready present hold ruled is =
     (ap (broken rule) gives ∙ sym ruled, λ _. gives))
     is
 
-pub took_tariff_held : (words : List ℕ) (end : ℕ) (c : Cursor) (t : When) (v n x : ℕ) (d : Cursor)
+pub took_tariff_held : (words : List ℕ) (end : ℕ) (c : Standing) (t : When) (v n x : ℕ) (d : Standing)
     → Ready words end c
     → holds t ≡ true
     → ((bs : List Bool) → length bs ≡ end → words ≡ cut 32 64 (length words) bs → v ≡ number (take 16 (drop c.at bs)))
@@ -213,7 +213,7 @@ letters_held words bs at w (suc n) narrow covered room cuts =
     let rest = letters_held words bs (at + w) w n narrow (omega arith) (omega arith) cuts in
     rw (one, drop-drop w at bs, rest)
 
-pub took_text : (words : List ℕ) (end : ℕ) (c : Cursor) (t : When) (letters : List ℕ) (n : ℕ) (d : Cursor)
+pub took_text : (words : List ℕ) (end : ℕ) (c : Standing) (t : When) (letters : List ℕ) (n : ℕ) (d : Standing)
     → Ready words end c
     → holds t ≡ true
     → letters ≡ letters_at words c.at 5 n
@@ -230,11 +230,11 @@ took_text words end c t letters n d ready present spelt is =
     is
 
 -- The end of a reading after a refusal, at the end of the bits, and at a one before it.
-pub ended_refused : (words : List ℕ) (end : ℕ) (c : Cursor) → (c.why ≡ 0 → ⊥) → Ended words end c c
+pub ended_refused : (words : List ℕ) (end : ℕ) (c : Standing) → (c.why ≡ 0 → ⊥) → Ended words end c c
 unfolding resume
 ended_refused words end c why = record { says = λ bs long cuts seen. rw (ne_eqb _ _ why) }
 
-module _ (words : List ℕ) (end : ℕ) (c : Cursor) (one : ℕ)
+module _ (words : List ℕ) (end : ℕ) (c : Standing) (one : ℕ)
     (clear : c.why ≡ 0)
     (within : c.at ≤ end)
     (found : (bs : List Bool) → length bs ≡ end → words ≡ cut 32 64 (length words) bs → one ≡ c.at + leading (drop c.at bs)) where
@@ -262,7 +262,7 @@ module _ (words : List ℕ) (end : ℕ) (c : Cursor) (one : ℕ)
       }
 
 -- Of two cursors without a refusal at one place the end is one.
-pub ended_there : (words : List ℕ) (end : ℕ) (c d e : Cursor) → c.why ≡ 0 → d.why ≡ 0 → d.at ≡ c.at → Ended words end c e → Ended words end d e
+pub ended_there : (words : List ℕ) (end : ℕ) (c d e : Standing) → c.why ≡ 0 → d.why ≡ 0 → d.at ≡ c.at → Ended words end c e → Ended words end d e
 unfolding resume
 ended_there words end c d e clear same here ended =
     record { says = λ bs long cuts seen. rw (eq-eqb _ _ same, here) (rw (eq-eqb _ _ clear) at (ended.says bs long cuts seen)) }

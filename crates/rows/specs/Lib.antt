@@ -1,3 +1,4 @@
+pub mod Why
 pub mod Row
 pub mod Walk
 pub mod Refusing

@@ -2,9 +2,10 @@
 ghost use Rattle.std.specs.Prelude.{◌≡◌, ◌*◌, ◌/◌, ◌<◌, ◌≤◌, Bool, List, length, replicate, ◌==◌};
 ghost use Rattle.bits.specs.Bits.{spread, cut, cleared, leading};
 ghost use Rattle.rows.specs.Margin.{words_of, margin_of};
+ghost use Rattle.rows.specs.Inner.Standing.{stand};
 ghost use Rattle.rows.specs.Inner.Step.{Drafted, Kept};
 
-use crate::Cursor;
+use crate::{Cursor, Why};
 
 // The margin of a record, in words of 64 bits that are named by their first bit. The last holds 24 bits that no record has.
 #[derive(Clone, Copy)]
@@ -76,8 +77,8 @@ pub fn take_area(words: &[u64], end: u32, at: u32, margin: &mut [u64])
 
 // Puts the margin of a record behind its last field.
 pub fn put(draft: &mut [u64], room: u32, c: Cursor, margin: Margin) -> Cursor
-    requires { Drafted draft.old room c × ((c.why ≡ 0) × ((room ≤ 256) × (8 ≤ length draft.old))) }
-    ensures { Kept draft.old draft.new room c (spread 64 (words_of margin)) result }
+    requires { Drafted draft.old room (stand c) × (((stand c).why ≡ 0) × ((room ≤ 256) × (8 ≤ length draft.old))) }
+    ensures { Kept draft.old draft.new room (stand c) (spread 64 (words_of margin)) (stand result) }
 {
     if margin.is_none() {
         return c;
@@ -88,8 +89,8 @@ pub fn put(draft: &mut [u64], room: u32, c: Cursor, margin: Margin) -> Cursor
 
 // Puts the margin of an area behind its last field.
 pub fn put_area(draft: &mut [u64], room: u32, c: Cursor, whole: &[u64]) -> Cursor
-    requires { Drafted draft.old room c × ((c.why ≡ 0) × ((room ≤ 960) × ((length whole.now ≡ 15) × (30 ≤ length draft.old)))) }
-    ensures { Kept draft.old draft.new room c (spread 64 whole.now) result }
+    requires { Drafted draft.old room (stand c) × (((stand c).why ≡ 0) × ((room ≤ 960) × ((length whole.now ≡ 15) × (30 ≤ length draft.old)))) }
+    ensures { Kept draft.old draft.new room (stand c) (spread 64 whole.now) (stand result) }
 {
     if bits::all_zero(whole) {
         return c;
@@ -99,8 +100,8 @@ pub fn put_area(draft: &mut [u64], room: u32, c: Cursor, whole: &[u64]) -> Curso
 
 // Puts the bits of whole words behind the last field: 7 at the first one that is in a field's place or past the room.
 fn put_words(draft: &mut [u64], room: u32, c: Cursor, whole: &[u64]) -> Cursor
-    requires { Drafted draft.old room c × ((c.why ≡ 0) × ((room ≤ 64 * length whole.now) × ((length whole.now < 1024) × (2 * length whole.now ≤ length draft.old)))) }
-    ensures { Kept draft.old draft.new room c (spread 64 whole.now) result }
+    requires { Drafted draft.old room (stand c) × (((stand c).why ≡ 0) × ((room ≤ 64 * length whole.now) × ((length whole.now < 1024) × (2 * length whole.now ≤ length draft.old)))) }
+    ensures { Kept draft.old draft.new room (stand c) (spread 64 whole.now) (stand result) }
 {
     let first = bits::first_one(whole, 0);
     if first < c.at {
@@ -117,11 +118,11 @@ fn put_words(draft: &mut [u64], room: u32, c: Cursor, whole: &[u64]) -> Cursor
 
 // A one that is out of place, which is no field's fault.
 fn astray(place: u32) -> Cursor
-    ensures { result ≡ record { at = place; why = 7; field = 0; number = 0 } }
+    ensures { stand result ≡ record { at = place; why = 7; field = 0; number = 0 } }
 {
     Cursor {
         at: place,
-        why: 7,
+        why: Some(Why::NoFit),
         field: 0,
         number: 0,
     }

@@ -1,11 +1,13 @@
 // The puts: each puts the next field of a writing behind the bits of a draft, or does nothing after a refusal.
 ghost use Rattle.std.specs.Prelude.{◌≡◌, ℕ, ◌+◌, ◌*◌, ◌/◌, ◌<◌, ◌≤◌, List, [], ◌∷◌, length, replicate};
+ghost use Rattle.std.specs.List.{list_any};
 ghost use Rattle.rows.specs.Row.{pick};
 ghost use Rattle.rows.specs.Walk.{exceeds};
+ghost use Rattle.rows.specs.Inner.Standing.{stand};
 ghost use Rattle.rows.specs.Inner.Step.{Drafted, Gave, Lays, LaidAll, Packed};
 
 use crate::take::{LETTER_BITS, ListTariff};
-use crate::{Cursor, Rule, When, step};
+use crate::{Cursor, Rule, When, Why, step};
 
 // Whether v is too wide for a box of w bits.
 fn wide(v: u32, w: u32) -> bool
@@ -17,10 +19,10 @@ fn wide(v: u32, w: u32) -> bool
 
 // A field of one box of w bits, under a rule.
 fn ruled(draft: &mut [u64], room: u32, c: Cursor, when: When, w: u32, rule: Rule, v: u32) -> Cursor
-    requires { Drafted draft.old room c × (w ≤ 32) }
-    ensures { Gave draft.old draft.new room c when (w ∷ []) rule (v ∷ []) result }
+    requires { Drafted draft.old room (stand c) × (w ≤ 32) }
+    ensures { Gave draft.old draft.new room (stand c) when (w ∷ []) rule (v ∷ []) (stand result) }
 {
-    if c.why != 0 {
+    if c.is_refused() {
         return c;
     }
     if !step::there(when) {
@@ -29,7 +31,7 @@ fn ruled(draft: &mut [u64], room: u32, c: Cursor, when: When, w: u32, rule: Rule
     let broken = step::ruled(rule, v);
     let wide = wide(v, w);
     let d = step::admit(c, room, w, wide, broken, 0);
-    if d.why == 0 {
+    if !d.is_refused() {
         bits::lay(draft, c.at, w, v);
     }
     d
@@ -37,8 +39,8 @@ fn ruled(draft: &mut [u64], room: u32, c: Cursor, when: When, w: u32, rule: Rule
 
 // A number of w bits.
 pub fn number(draft: &mut [u64], room: u32, c: Cursor, when: When, w: u32, v: u32) -> Cursor
-    requires { Drafted draft.old room c × (w ≤ 32) }
-    ensures { Gave draft.old draft.new room c when (w ∷ []) Rule.Any (v ∷ []) result }
+    requires { Drafted draft.old room (stand c) × (w ≤ 32) }
+    ensures { Gave draft.old draft.new room (stand c) when (w ∷ []) Rule.Any (v ∷ []) (stand result) }
 {
     ruled(draft, room, c, when, w, Rule::Any, v)
 }
@@ -53,16 +55,16 @@ pub fn at_most(
     m: u32,
     v: u32,
 ) -> Cursor
-    requires { Drafted draft.old room c × (w ≤ 32) }
-    ensures { Gave draft.old draft.new room c when (w ∷ []) (Rule.Most m) (v ∷ []) result }
+    requires { Drafted draft.old room (stand c) × (w ≤ 32) }
+    ensures { Gave draft.old draft.new room (stand c) when (w ∷ []) (Rule.Most m) (v ∷ []) (stand result) }
 {
     ruled(draft, room, c, when, w, Rule::Most(m), v)
 }
 
 // The EnvData bitmap: 3 where it marks EnvData2.
 pub fn env_data(draft: &mut [u64], room: u32, c: Cursor, when: When, v: u32) -> Cursor
-    requires { Drafted draft.old room c }
-    ensures { Gave draft.old draft.new room c when (2 ∷ []) Rule.NoSecond (v ∷ []) result }
+    requires { Drafted draft.old room (stand c) }
+    ensures { Gave draft.old draft.new room (stand c) when (2 ∷ []) Rule.NoSecond (v ∷ []) (stand result) }
 {
     ruled(draft, room, c, when, 2, Rule::NoSecond, v)
 }
@@ -77,10 +79,10 @@ pub fn tariff(
     kind: u32,
     priority: u32,
 ) -> Cursor
-    requires { Drafted draft.old room c }
-    ensures { Gave draft.old draft.new room c when (4 ∷ 8 ∷ 4 ∷ []) Rule.Tariff (key ∷ kind ∷ priority ∷ []) result }
+    requires { Drafted draft.old room (stand c) }
+    ensures { Gave draft.old draft.new room (stand c) when (4 ∷ 8 ∷ 4 ∷ []) Rule.Tariff (key ∷ kind ∷ priority ∷ []) (stand result) }
 {
-    if c.why != 0 {
+    if c.is_refused() {
         return c;
     }
     let here = step::there(when);
@@ -88,13 +90,9 @@ pub fn tariff(
     if !here {
         return step::absent(c, wide);
     }
-    let broken = if priority == ListTariff::UNDEFINED {
-        4
-    } else {
-        0
-    };
+    let broken = (priority == ListTariff::UNDEFINED).then_some(Why::OutOfRange);
     let d = step::admit(c, room, ListTariff::BITS, wide, broken, 0);
-    if d.why == 0 {
+    if !d.is_refused() {
         bits::lay(draft, c.at, ListTariff::BITS, packed(key, kind, priority));
     }
     d
@@ -122,10 +120,10 @@ fn packed(key: u32, kind: u32, priority: u32) -> u32
 
 // A text: letters of 5 bits, one field.
 pub fn text(draft: &mut [u64], room: u32, c: Cursor, when: When, letters: &[u32]) -> Cursor
-    requires { Drafted draft.old room c × (length letters.now ≤ 32) }
-    ensures { Gave draft.old draft.new room c when (replicate (length letters.now) 5) Rule.Any letters.now result }
+    requires { Drafted draft.old room (stand c) × (length letters.now ≤ 32) }
+    ensures { Gave draft.old draft.new room (stand c) when (replicate (length letters.now) 5) Rule.Any letters.now (stand result) }
 {
-    if c.why != 0 {
+    if c.is_refused() {
         return c;
     }
     if !step::there(when) {
@@ -133,8 +131,8 @@ pub fn text(draft: &mut [u64], room: u32, c: Cursor, when: When, letters: &[u32]
     }
     let wide = any_wide(letters, LETTER_BITS);
     let width = letters.len() as u32 * LETTER_BITS;
-    let d = step::admit(c, room, width, wide, 0, 0);
-    if d.why == 0 {
+    let d = step::admit(c, room, width, wide, None, 0);
+    if !d.is_refused() {
         lay_all(draft, c.at, LETTER_BITS, letters);
     }
     d
@@ -143,16 +141,9 @@ pub fn text(draft: &mut [u64], room: u32, c: Cursor, when: When, letters: &[u32]
 // Whether one of the letters is too wide for a box of w bits.
 fn any_wide(letters: &[u32], w: u32) -> bool
     requires { w ≤ 32 }
-    ensures { result ≡ exceeds (replicate (length letters.now) w) letters.now }
+    ensures { result ≡ list_any (λ v. exceeds (w ∷ []) (v ∷ [])) letters.now }
 {
-    let mut i = 0;
-    while i < letters.len() {
-        if wide(letters[i], w) {
-            return true;
-        }
-        i += 1;
-    }
-    false
+    letters.iter().any(|&v| wide(v, w))
 }
 
 // Lays the letters in boxes of w bits behind the bits of a draft.
@@ -161,20 +152,18 @@ fn lay_all(draft: &mut [u64], at: u32, w: u32, letters: &[u32])
     ensures { LaidAll draft.old draft.new at w letters.now }
 {
     let mut place = at;
-    let mut i = 0;
-    while i < letters.len() {
-        bits::lay(draft, place, w, letters[i]);
+    for &v in letters {
+        bits::lay(draft, place, w, v);
         place += w;
-        i += 1;
     }
 }
 
 // A field wider than the whole record, which has no number: 2 where it is there.
 pub fn never(room: u32, c: Cursor, when: When, w: u32) -> Cursor
     requires { (c.at ≤ room) × (room < w) }
-    ensures { (draft : List ℕ) → room / 32 + 1 < length draft → Gave draft draft room c when (w ∷ []) Rule.Any (0 ∷ []) result }
+    ensures { (draft : List ℕ) → room / 32 + 1 < length draft → Gave draft draft room (stand c) when (w ∷ []) Rule.Any (0 ∷ []) (stand result) }
 {
-    if c.why != 0 {
+    if c.is_refused() {
         return c;
     }
     if !step::there(when) {
@@ -186,9 +175,9 @@ pub fn never(room: u32, c: Cursor, when: When, w: u32) -> Cursor
 // The end of a writing: where there was no refusal, all of the lent bytes are the draft's bits and zeros behind them.
 pub fn end(draft: &[u64], c: Cursor, bytes: &mut [u8])
     requires { length bytes.old ≤ 4 * length draft.now }
-    ensures { Packed draft.now c bytes.old bytes.new }
+    ensures { Packed draft.now (stand c) bytes.old bytes.new }
 {
-    if c.why == 0 {
+    if !c.is_refused() {
         bits::pack(draft, bytes);
     }
 }

@@ -1,8 +1,9 @@
 // The takes: each takes the next field of a reading, or does nothing after a refusal.
 ghost use Rattle.std.specs.Prelude.{◌≡◌, ℕ, ◌/◌, ◌<◌, ◌≤◌, List, [], ◌∷◌, length, replicate};
+ghost use Rattle.rows.specs.Inner.Standing.{stand};
 ghost use Rattle.rows.specs.Inner.Step.{Ready, Took, Ended, Spells, letters_at};
 
-use crate::{Cursor, Rule, When, step};
+use crate::{Cursor, Rule, When, Why, step};
 
 // A list's tariff, with the cursor behind it.
 #[derive(Clone, Copy)]
@@ -51,10 +52,10 @@ impl ListTariff {
 
 // A field of one box of w bits, under a rule.
 fn ruled(words: &[u64], end: u32, c: Cursor, when: When, w: u32, rule: Rule) -> Cursor
-    requires { Ready words.now end c × (w ≤ 32) }
-    ensures { Took words.now end c when (w ∷ []) rule (result.number ∷ []) result }
+    requires { Ready words.now end (stand c) × (w ≤ 32) }
+    ensures { Took words.now end (stand c) when (w ∷ []) rule (result.number ∷ []) (stand result) }
 {
-    if c.why != 0 {
+    if c.is_refused() {
         return c;
     }
     if !step::there(when) {
@@ -70,34 +71,34 @@ fn ruled(words: &[u64], end: u32, c: Cursor, when: When, w: u32, rule: Rule) -> 
 
 // A number of w bits.
 pub fn number(words: &[u64], end: u32, c: Cursor, when: When, w: u32) -> Cursor
-    requires { Ready words.now end c × (w ≤ 32) }
-    ensures { Took words.now end c when (w ∷ []) Rule.Any (result.number ∷ []) result }
+    requires { Ready words.now end (stand c) × (w ≤ 32) }
+    ensures { Took words.now end (stand c) when (w ∷ []) Rule.Any (result.number ∷ []) (stand result) }
 {
     ruled(words, end, c, when, w, Rule::Any)
 }
 
 // A number of w bits that is at most m: 4 else.
 pub fn at_most(words: &[u64], end: u32, c: Cursor, when: When, w: u32, m: u32) -> Cursor
-    requires { Ready words.now end c × (w ≤ 32) }
-    ensures { Took words.now end c when (w ∷ []) (Rule.Most m) (result.number ∷ []) result }
+    requires { Ready words.now end (stand c) × (w ≤ 32) }
+    ensures { Took words.now end (stand c) when (w ∷ []) (Rule.Most m) (result.number ∷ []) (stand result) }
 {
     ruled(words, end, c, when, w, Rule::Most(m))
 }
 
 // The EnvData bitmap: 3 where it marks EnvData2.
 pub fn env_data(words: &[u64], end: u32, c: Cursor, when: When) -> Cursor
-    requires { Ready words.now end c }
-    ensures { Took words.now end c when (2 ∷ []) Rule.NoSecond (result.number ∷ []) result }
+    requires { Ready words.now end (stand c) }
+    ensures { Took words.now end (stand c) when (2 ∷ []) Rule.NoSecond (result.number ∷ []) (stand result) }
 {
     ruled(words, end, c, when, 2, Rule::NoSecond)
 }
 
 // A list's tariff: key, contract type and priority, one field: 4 where the priority is 13.
 pub fn tariff(words: &[u64], end: u32, c: Cursor, when: When) -> ListTariff
-    requires { Ready words.now end c }
-    ensures { Took words.now end c when (4 ∷ 8 ∷ 4 ∷ []) Rule.Tariff (result.key ∷ result.kind ∷ result.priority ∷ []) result.cursor }
+    requires { Ready words.now end (stand c) }
+    ensures { Took words.now end (stand c) when (4 ∷ 8 ∷ 4 ∷ []) Rule.Tariff (result.key ∷ result.kind ∷ result.priority ∷ []) (stand result.cursor) }
 {
-    if c.why != 0 {
+    if c.is_refused() {
         return ListTariff::without_numbers(c);
     }
     if !step::there(when) {
@@ -108,11 +109,7 @@ pub fn tariff(words: &[u64], end: u32, c: Cursor, when: When) -> ListTariff
     }
     let v = bits::number(words, c.at, ListTariff::BITS);
     let priority = v % ListTariff::PRIORITIES;
-    let broken = if priority == ListTariff::UNDEFINED {
-        4
-    } else {
-        0
-    };
+    let broken = (priority == ListTariff::UNDEFINED).then_some(Why::OutOfRange);
     let cursor = step::admit(c, end, ListTariff::BITS, false, broken, v);
     ListTariff {
         cursor,
@@ -127,10 +124,10 @@ pub const LETTER_BITS: u32 = 5;
 
 // A text: letters of 5 bits, one field, into letters lent as zeros. They count only where there is no refusal.
 pub fn text(words: &[u64], end: u32, c: Cursor, when: When, letters: &mut [u32]) -> Cursor
-    requires { Ready words.now end c × ((length letters.old ≤ 32) × (letters.old ≡ replicate (length letters.old) 0)) }
-    ensures { Took words.now end c when (replicate (length letters.old) 5) Rule.Any letters.new result }
+    requires { Ready words.now end (stand c) × ((length letters.old ≤ 32) × (letters.old ≡ replicate (length letters.old) 0)) }
+    ensures { Took words.now end (stand c) when (replicate (length letters.old) 5) Rule.Any letters.new (stand result) }
 {
-    if c.why != 0 {
+    if c.is_refused() {
         return c;
     }
     if !step::there(when) {
@@ -141,7 +138,7 @@ pub fn text(words: &[u64], end: u32, c: Cursor, when: When, letters: &mut [u32])
         return step::past(c);
     }
     spell(words, c.at, LETTER_BITS, letters);
-    step::admit(c, end, width, false, 0, 0)
+    step::admit(c, end, width, false, None, 0)
 }
 
 // The numbers of w bits one after the other from bit at on.
@@ -150,20 +147,18 @@ fn spell(words: &[u64], at: u32, w: u32, letters: &mut [u32])
     ensures { letters.new ≡ letters_at words.now at w (length letters.old) }
 {
     let mut place = at;
-    let mut i = 0;
-    while i < letters.len() {
-        letters[i] = bits::number(words, place, w);
+    for letter in letters.iter_mut() {
+        *letter = bits::number(words, place, w);
         place += w;
-        i += 1;
     }
 }
 
 // A field wider than the whole record: 2 where it is there.
 pub fn never(end: u32, c: Cursor, when: When, w: u32) -> Cursor
     requires { (c.at ≤ end) × (end < w) }
-    ensures { (words : List ℕ) → end / 32 < length words → Took words end c when (w ∷ []) Rule.Any (0 ∷ []) result }
+    ensures { (words : List ℕ) → end / 32 < length words → Took words end (stand c) when (w ∷ []) Rule.Any (0 ∷ []) (stand result) }
 {
-    if c.why != 0 {
+    if c.is_refused() {
         return c;
     }
     if !step::there(when) {
@@ -174,10 +169,10 @@ pub fn never(end: u32, c: Cursor, when: When, w: u32) -> Cursor
 
 // The end of a list's reading: 5 at the first one that is left.
 pub fn end(words: &[u64], end: u32, c: Cursor) -> Cursor
-    requires { Ready words.now end c × (end < 65536) }
-    ensures { Ended words.now end c result }
+    requires { Ready words.now end (stand c) × (end < 65536) }
+    ensures { Ended words.now end (stand c) (stand result) }
 {
-    if c.why != 0 {
+    if c.is_refused() {
         return c;
     }
     let one = bits::next_one(words, end, c.at);
@@ -186,7 +181,7 @@ pub fn end(words: &[u64], end: u32, c: Cursor) -> Cursor
     }
     Cursor {
         at: one,
-        why: 5,
+        why: Some(Why::LeftOver),
         field: 0,
         number: 0,
     }
