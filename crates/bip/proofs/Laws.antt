@@ -17,20 +17,20 @@ use Rattle.rows.specs.Walk.{Outcome, done, refused, Content, numbers, read, writ
 use Rattle.rows.proofs.RoundTrip.{reading}
 use Rattle.rows.proofs.Margins.{cut_none}
 use Rattle.records.specs.Answer.{Written, refusal, refusal_at, accepted, denied, written, answered, valued, content, read_record, write_record}
-use Rattle.records.specs.declared.Refusal.{Refusal}
+use Rattle.records.specs.Answer.{Answer}
 use Rattle.records.proofs.Inverse.{slots_read_write, slots_write_read}
 use Rattle.records.proofs.Coming.{ComesTo, unwritten, comes_within, record_comes, record_write_comes}
 use Rattle.bip.specs.Table.{bip}
 use Rattle.bip.specs.Value.{numbers_of, bip_of, bip_read, bip_written}
 use Rattle.bip.specs.declared.BipContract.{BipContract}
-use Rattle.bip.specs.declared.BipRead.TheVariants.{Read, Refused}
+use Rattle.std.specs.Prelude.{Ok, Err}
 use Rattle.bip.proofs.Whole.{widths, frame_bip, bip_size, reads_whole}
 use Rattle.bip.proofs.Values.{numbers_back, value_back}
 
-same : (a b : BipContract) → Read a ≡ Read b → a ≡ b
+same : (a b : BipContract) → Ok a ≡ Ok b → a ≡ b
 same a b h = cc
 
-apart : (r : Refusal) (b : BipContract) → Refused r ≡ Read b → ⊥
+apart : (r : Answer) (b : BipContract) → Err r ≡ Ok b → ⊥
 apart r b h = let z : ◌≡◌ {A = ℕ} 0 1 = cc in omega arith
 
 zeros_small : (i : ℕ) → get_or (replicate 4 0) i 0 < 2 ^ 64
@@ -69,7 +69,7 @@ held bs {c} {end} long h =
     }
 
 -- Every string of 29 bytes reads.
-pub bip_reads : (bytes : List ℕ) → length bytes ≡ 29 → (b : BipContract) × (bip_read bytes ≡ Read b)
+pub bip_reads : (bytes : List ℕ) → length bytes ≡ 29 → (b : BipContract) × (bip_read bytes ≡ Ok b)
 unfolding read_record
 bip_reads bytes long =
     let w = reads_whole (spread 8 bytes) (length-spread 8 bytes ∙ rw long) in
@@ -77,13 +77,13 @@ bip_reads bytes long =
 
 -- Its bytes, written onto any record, are the same bytes.
 pub bip_read_write : (bytes onto : List ℕ) (b : BipContract) → ((i : ℕ) → get_or bytes i 0 < 2 ^ 8) → length onto ≡ 29
-    → bip_read bytes ≡ Read b
+    → bip_read bytes ≡ Ok b
     → bip_written onto b ≡ accepted bytes
 unfolding read_record write_record
 bip_read_write bytes onto b small whole h = rw (eq-eqb _ _ whole) (go (eqb (length bytes) 29) refl (read bip (spread 8 bytes)) refl h)
   where
     go : (t : Bool) → eqb (length bytes) 29 ≡ t → (o : Outcome Content) → read bip (spread 8 bytes) ≡ o
-        → pick t (answered (valued 4 (λ vals margin. Read (bip_of vals))) Refused o) (Refused (refusal 1 0)) ≡ Read b
+        → pick t (answered (valued 4 (λ vals margin. Ok (bip_of vals))) Err o) (Err (refusal 1 0)) ≡ Ok b
         → written onto (write bip 232 (content (numbers_of b) (replicate 4 0))) ≡ accepted bytes
     go true l (done c end) r h =
         let long : length bytes ≡ 29 = eqb-true (length bytes) 29 l in
@@ -96,13 +96,13 @@ bip_read_write bytes onto b small whole h = rw (eq-eqb _ _ whole) (go (eqb (leng
     go false l o r h = absurd (apart (refusal 1 0) b h)
 
 -- A record that was written, read again, is the same value.
-pub bip_write_read : (before after : List ℕ) (b : BipContract) → bip_written before b ≡ accepted after → bip_read after ≡ Read b
+pub bip_write_read : (before after : List ℕ) (b : BipContract) → bip_written before b ≡ accepted after → bip_read after ≡ Ok b
 unfolding read_record write_record
 bip_write_read before after b = go (eqb (length before) 29) refl
   where
     go : (t : Bool) → eqb (length before) 29 ≡ t
         → pick t (written before (write bip 232 (content (numbers_of b) (replicate 4 0)))) (denied (refusal 1 0) before) ≡ accepted after
-        → pick (eqb (length after) 29) (answered (valued 4 (λ vals margin. Read (bip_of vals))) Refused (read bip (spread 8 after))) (Refused (refusal 1 0)) ≡ Read b
+        → pick (eqb (length after) 29) (answered (valued 4 (λ vals margin. Ok (bip_of vals))) Err (read bip (spread 8 after))) (Err (refusal 1 0)) ≡ Ok b
     go true l h =
         let long : length before ≡ 29 = eqb-true (length before) 29 l in
         let (c, end, reads, vals, margin, size) =
@@ -113,7 +113,7 @@ bip_write_read before after b = go (eqb (length before) 29) refl
     go false l h = absurd (let one : ◌≡◌ {A = ℕ} 1 0 = ap (λ (w : Written). w.answer.number) h in omega arith)
 
 -- The refusals of a reading and of a writing.
-pub bip_comes : (bytes : List ℕ) → ComesTo Read Refused (1 ∷ []) (bip_read bytes)
+pub bip_comes : (bytes : List ℕ) → ComesTo Ok Err (1 ∷ []) (bip_read bytes)
 unfolding bip
 bip_comes bytes = comes_within (record_comes (λ vals margin. bip_of vals) bip bytes) refl
 

@@ -12,14 +12,14 @@ use Rattle.records.proofs.Telling.{told_one}
 use Rattle.bip.specs.Value.{tagged, carried, bip_told}
 use Rattle.bip.specs.declared.Extension.{Extension}
 use Rattle.bip.specs.declared.Extension.TheVariants.{Nothing, Tag}
-use Rattle.bip.specs.declared.BipRead.{BipRead}
-use Rattle.bip.specs.declared.BipRead.TheVariants.{Read, Refused}
+use Rattle.bip.specs.Value.{BipRead}
+use Rattle.std.specs.Prelude.{Ok, Err}
 
 abbrev bip_back : Told → BipRead
 bip_back t =
     let vals : List ℕ = t.values in
     pick t.holds
-    (Read
+    (Ok
     (record {
       company = get_or vals 0 0;
       format = get_or vals 1 0;
@@ -45,7 +45,7 @@ bip_back t =
       extension = pick (eqb (get_or vals 18 0) 0) Nothing (Tag (get_or vals 19 0));
       mac = get_or vals 20 0;
     }))
-    (Refused (refusal_at t.number t.place t.field))
+    (Err (refusal_at t.number t.place t.field))
 
 odd_bit_back : (b : Bool) → odd (bit b) ≡ b
 odd_bit_back true = refl
@@ -56,7 +56,7 @@ extension_back Nothing = refl
 extension_back (Tag n) = refl
 
 bip_returned : (r : BipRead) → bip_back (bip_told r) ≡ r
-bip_returned (Read b) =
+bip_returned (Ok b) =
     rw (
       odd_bit_back b.days.monday,
       odd_bit_back b.days.tuesday,
@@ -68,7 +68,7 @@ bip_returned (Read b) =
       odd_bit_back b.days.holidays,
       extension_back b.extension,
     )
-bip_returned (Refused r) = refl
+bip_returned (Err r) = refl
 
 pub bip_one : (r s : BipRead) → bip_told r ≡ bip_told s → r ≡ s
 bip_one = told_one bip_told bip_back bip_returned

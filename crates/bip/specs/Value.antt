@@ -9,8 +9,7 @@ use Rattle.bip.specs.declared.Weekdays.{Weekdays}
 use Rattle.bip.specs.declared.Extension.{Extension}
 use Rattle.bip.specs.declared.Extension.TheVariants.{Nothing, Tag}
 use Rattle.bip.specs.declared.BipContract.{BipContract}
-use Rattle.bip.specs.declared.BipRead.{BipRead}
-use Rattle.bip.specs.declared.BipRead.TheVariants.{Read, Refused}
+use Rattle.std.specs.Prelude.{Ok, Err}
 
 -- One's complement over three bytes: what stands in the record for a date, minutes since 1/1/2005, and the date for which it stands there. A
 -- date too wide stays too wide.
@@ -123,12 +122,12 @@ values_of b =
 
 -- The cases of the answer, each by its number, its place, its field and its values.
 abbrev pub bip_told : BipRead → Told
-bip_told (Read b) = told_value (values_of b)
-bip_told (Refused r) = told_refusal 21 r
+bip_told (Ok b) = told_value (values_of b)
+bip_told (Err r) = told_refusal 21 r
 
 -- The fields fill the record: there is no margin to read, and none to write.
 abbrev pub bip_read : List ℕ → BipRead
-bip_read bytes = read_record (λ vals margin. Read (bip_of vals)) Refused bip bytes
+bip_read bytes = read_record (λ vals margin. Ok (bip_of vals)) Err bip bytes
 
 abbrev pub bip_written : List ℕ → BipContract → Written
 bip_written before b = write_record bip (numbers_of b) (replicate 4 0) before

@@ -18,12 +18,12 @@ use Rattle.rows.proofs.RoundTrip.{read_slots}
 use Rattle.rows.proofs.Refusing.{Refuses, within, refuses_then, walk_written}
 use Rattle.records.specs.Answer.{Written, refusal, refusal_at, accepted, denied, written, answered, valued, content, read_record, write_record, from}
 use Rattle.contract.specs.Contract.{data42_of, data50_of, numbers42, numbers50, head_numbers, with_rest, is_carnet, is_urban, table_of, follow, contract_of, known, contract_read, suit, agrees, carnet, urban, numbers_of, disagreement, contract_written}
-use Rattle.records.specs.declared.Refusal.{Refusal}
+use Rattle.records.specs.Answer.{Answer}
 use Rattle.contract.specs.declared.Data.{Data}
 use Rattle.contract.specs.declared.Data.TheVariants.{Nothing, Carnet, Urban}
 use Rattle.contract.specs.declared.Contract.{Contract}
-use Rattle.contract.specs.declared.ContractRead.{ContractRead}
-use Rattle.contract.specs.declared.ContractRead.TheVariants.{Read, Refused}
+use Rattle.contract.specs.Contract.{ContractRead}
+use Rattle.std.specs.Prelude.{Ok, Err}
 use Rattle.records.proofs.Inverse.{View, from_all, record_read_write, record_write_read}
 use Rattle.records.proofs.Coming.{ComesTo, unwritten, comes_within, either, stops, written_comes, record_comes, record_write_comes}
 use Rattle.contract.proofs.Absent.{zero_slots, absent, read_absent}
@@ -105,15 +105,15 @@ view kind there =
       kept = λ vals margin long. from_all 4 margin long;
     }
 
-same : (kind : ℕ) (a b : Agreed kind) → Read a.0 ≡ Read b.0 → a ≡ b
+same : (kind : ℕ) (a b : Agreed kind) → Ok a.0 ≡ Ok b.0 → a ≡ b
 same kind a b h = Σ_prop_path (λ c. So-prop (agrees kind c)) (cc)
 
-apart : (r : Refusal) (c : Contract) → Refused r ≡ Read c → ⊥
+apart : (r : Answer) (c : Contract) → Err r ≡ Ok c → ⊥
 apart r c h = let z : ◌≡◌ {A = ℕ} 0 1 = cc in omega arith
 
 -- The table of a type, read from a record.
 abbrev reads : ℕ → List ℕ → ContractRead
-reads kind bytes = read_record (λ vals margin. Read (contract_of kind vals margin)) Refused (table_of kind) bytes
+reads kind bytes = read_record (λ vals margin. Ok (contract_of kind vals margin)) Err (table_of kind) bytes
 
 -- Under a type that there is, reading a contract is reading its table; under no other is a contract read.
 read_known : (kind : ℕ) (bytes : List ℕ) → known kind ≡ true → contract_read kind bytes ≡ reads kind bytes
@@ -121,27 +121,27 @@ unfolding read_record
 read_known kind bytes there = rw there (go (eqb (length bytes) 29))
   where
     x : ContractRead
-    x = answered (valued 4 (λ vals margin. Read (contract_of kind vals margin))) Refused (read (table_of kind) (spread 8 bytes))
+    x = answered (valued 4 (λ vals margin. Ok (contract_of kind vals margin))) Err (read (table_of kind) (spread 8 bytes))
 
-    go : (b : Bool) → pick b (pick b x (Refused (refusal 1 0))) (Refused (refusal 1 0)) ≡ pick b x (Refused (refusal 1 0))
+    go : (b : Bool) → pick b (pick b x (Err (refusal 1 0))) (Err (refusal 1 0)) ≡ pick b x (Err (refusal 1 0))
     go true = refl
     go false = refl
 
-known_read : (kind : ℕ) (bytes : List ℕ) (c : Contract) → contract_read kind bytes ≡ Read c → known kind ≡ true
+known_read : (kind : ℕ) (bytes : List ℕ) (c : Contract) → contract_read kind bytes ≡ Ok c → known kind ≡ true
 known_read kind bytes c = go (eqb (length bytes) 29) (known kind)
   where
-    go : (l t : Bool) → pick l (pick t (reads kind bytes) (Refused (refusal 3 0))) (Refused (refusal 1 0)) ≡ Read c → t ≡ true
+    go : (l t : Bool) → pick l (pick t (reads kind bytes) (Err (refusal 3 0))) (Err (refusal 1 0)) ≡ Ok c → t ≡ true
     go true true h = refl
     go true false h = absurd (apart (refusal 3 0) c h)
     go false t h = absurd (apart (refusal 1 0) c h)
 
 -- A contract that was read agrees.
-agrees_read : (kind : ℕ) (bytes : List ℕ) (c : Contract) → known kind ≡ true → reads kind bytes ≡ Read c → agrees kind c ≡ true
+agrees_read : (kind : ℕ) (bytes : List ℕ) (c : Contract) → known kind ≡ true → reads kind bytes ≡ Ok c → agrees kind c ≡ true
 unfolding read_record
 agrees_read kind bytes c there = go (eqb (length bytes) 29) (read (table_of kind) (spread 8 bytes))
   where
     go : (l : Bool) (o : Outcome Content)
-        → pick l (answered (valued 4 (λ vals margin. Read (contract_of kind vals margin))) Refused o) (Refused (refusal 1 0)) ≡ Read c
+        → pick l (answered (valued 4 (λ vals margin. Ok (contract_of kind vals margin))) Err o) (Err (refusal 1 0)) ≡ Ok c
         → agrees kind c ≡ true
     go true (done r end) h =
         let margin : List ℕ = cut 64 64 4 r.margin in
@@ -185,22 +185,22 @@ known_written kind c before after = go (eqb (length before) 29) (known kind) (ag
     go false t a h = absurd (let z : ◌≡◌ {A = ℕ} 1 0 = ap (λ (w : Written). w.answer.number) h in omega arith)
 
 pub contract_read_write : (kind : ℕ) (bytes onto : List ℕ) (c : Contract) → ((i : ℕ) → get_or bytes i 0 < 2 ^ 8) → length onto ≡ 29
-    → contract_read kind bytes ≡ Read c
+    → contract_read kind bytes ≡ Ok c
     → contract_written kind c onto ≡ accepted bytes
 contract_read_write kind bytes onto c small long h =
     let there = known_read kind bytes c h in
-    let reading : reads kind bytes ≡ Read c = sym (read_known kind bytes there) ∙ h in
+    let reading : reads kind bytes ≡ Ok c = sym (read_known kind bytes there) ∙ h in
     let agree = agrees_read kind bytes c there reading in
     write_known kind c onto there agree
-    ∙ record_read_write (λ (a : Agreed kind). Read a.0) Refused (same kind) (λ r a. apart r a.0) (view kind there) bytes onto (c, agree) small long reading
+    ∙ record_read_write (λ (a : Agreed kind). Ok a.0) Err (same kind) (λ r a. apart r a.0) (view kind there) bytes onto (c, agree) small long reading
 
 pub contract_write_read : (kind : ℕ) (before after : List ℕ) (c : Contract) → ((i : ℕ) → get_or (words_of c.margin) i 0 < 2 ^ 64)
     → contract_written kind c before ≡ accepted after
-    → contract_read kind after ≡ Read c
+    → contract_read kind after ≡ Ok c
 contract_write_read kind before after c small h =
     let (there, agree) = known_written kind c before after h in
     read_known kind after there
-    ∙ record_write_read (λ (a : Agreed kind). Read a.0) Refused (same kind) (λ r a. apart r a.0) (view kind there) before after (c, agree) small
+    ∙ record_write_read (λ (a : Agreed kind). Ok a.0) Err (same kind) (λ r a. apart r a.0) (view kind there) before after (c, agree) small
     (sym (write_known kind c before there agree) ∙ h)
 
 -- The numbers that the tables of both types refuse with.
@@ -220,7 +220,7 @@ disagreement_comes c before =
     (λ vals end. record { some = λ z. omega arith; listed = refl; named = refl }))
 
 -- The refusals of a reading and of a writing.
-pub contract_comes : (kind : ℕ) (bytes : List ℕ) → ComesTo Read Refused (1 ∷ 3 ∷ 2 ∷ 4 ∷ []) (contract_read kind bytes)
+pub contract_comes : (kind : ℕ) (bytes : List ℕ) → ComesTo Ok Err (1 ∷ 3 ∷ 2 ∷ 4 ∷ []) (contract_read kind bytes)
 contract_comes kind bytes =
     either (eqb (length bytes) 29)
     (either (known kind) (comes_within (record_comes (contract_of kind) (table_of kind) bytes) (contract_numbers (is_carnet kind)).0) (stops (refusal 3 0) refl refl refl))

@@ -24,8 +24,8 @@ use Rattle.contract.specs.declared.Contract.{Contract}
 use Rattle.contract.specs.declared.Data42.{Data42}
 use Rattle.contract.specs.declared.Data50.{Data50}
 use Rattle.contract.specs.declared.Data.TheVariants.{Nothing, Carnet, Urban}
-use Rattle.contract.specs.declared.ContractRead.{ContractRead}
-use Rattle.contract.specs.declared.ContractRead.TheVariants.{Read, Refused}
+use Rattle.contract.specs.Contract.{ContractRead}
+use Rattle.std.specs.Prelude.{Ok, Err}
 
 -- The takes of a type's whole table.
 module _ (words : List ℕ) (kind : ℕ) (h : Contract) (c last : Standing) (front : Taken words 232 head [] start (head_numbers h) c) where
@@ -133,12 +133,12 @@ module _ (kind : ℕ) (bytes words all : List ℕ) (last : Standing)
     (there : known kind ≡ true)
     (cuts : words ≡ cut 32 64 8 (spread 8 bytes))
     (taken : Taken words 232 (table_of kind) [] start all last) where
-  pub told_refused : (r : ContractRead) → r ≡ Refused (met last) → (last.why ≡ 0 → ⊥) → contract_told r ≡ contract_told (contract_read kind bytes)
+  pub told_refused : (r : ContractRead) → r ≡ Err (met last) → (last.why ≡ 0 → ⊥) → contract_told r ≡ contract_told (contract_read kind bytes)
   told_refused r is why =
       rw (eq-eqb _ _ whole, there) (ap contract_told (is ∙ record_refused _ _ _ bytes words _ _ (few_rows kind) whole cuts taken why))
 
-  pub told_read : (r : ContractRead) → r ≡ Read (contract_of kind all (cut 64 64 4 (cleared last.at (spread 8 bytes)))) → last.why ≡ 0
+  pub told_read : (r : ContractRead) → r ≡ Ok (contract_of kind all (cut 64 64 4 (cleared last.at (spread 8 bytes)))) → last.why ≡ 0
       → contract_told r ≡ contract_told (contract_read kind bytes)
   told_read r is ok =
       rw (eq-eqb _ _ whole, there)
-      (ap contract_told (is ∙ record_read (λ vals margin. Read (contract_of kind vals margin)) Refused _ bytes words _ _ (few_rows kind) whole cuts taken ok refl))
+      (ap contract_told (is ∙ record_read (λ vals margin. Ok (contract_of kind vals margin)) Err _ bytes words _ _ (few_rows kind) whole cuts taken ok refl))

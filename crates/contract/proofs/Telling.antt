@@ -10,8 +10,8 @@ use Rattle.records.proofs.Telling.{told_one}
 use Rattle.contract.specs.Contract.{head_of, with_rest, data42_of, data50_of, is_carnet, is_urban, contract_told}
 use Rattle.contract.specs.declared.Data.{Data}
 use Rattle.contract.specs.declared.Data.TheVariants.{Nothing, Carnet, Urban}
-use Rattle.contract.specs.declared.ContractRead.{ContractRead}
-use Rattle.contract.specs.declared.ContractRead.TheVariants.{Read, Refused}
+use Rattle.contract.specs.Contract.{ContractRead}
+use Rattle.std.specs.Prelude.{Ok, Err}
 
 -- The data of a type and of their numbers.
 abbrev data_back : ℕ → List ℕ → Data
@@ -26,18 +26,18 @@ abbrev contract_back : Told → ContractRead
 contract_back t =
     let kind : ℕ = get_or t.values 9 0 in
     pick t.holds
-    (Read
+    (Ok
     (with_rest (head_of t.values) (data_back kind (drop 10 t.values)) (margin_of (drop (10 + many kind) t.values))))
-    (Refused (refusal_at t.number t.place t.field))
+    (Err (refusal_at t.number t.place t.field))
 
 contract_returned : (r : ContractRead) → contract_back (contract_told r) ≡ r
-contract_returned (Read c) = go c.«data»
+contract_returned (Ok c) = go c.«data»
   where
-    go : (d : Data) → contract_back (contract_told (Read (with_rest c d c.margin))) ≡ Read (with_rest c d c.margin)
+    go : (d : Data) → contract_back (contract_told (Ok (with_rest c d c.margin))) ≡ Ok (with_rest c d c.margin)
     go Nothing = refl
     go (Carnet d) = refl
     go (Urban d) = refl
-contract_returned (Refused r) = refl
+contract_returned (Err r) = refl
 
 pub contract_one : (r s : ContractRead) → contract_told r ≡ contract_told s → r ≡ s
 contract_one = told_one contract_told contract_back contract_returned

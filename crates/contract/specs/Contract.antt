@@ -13,8 +13,7 @@ use Rattle.contract.specs.declared.Data50.{Data50}
 use Rattle.contract.specs.declared.Data.{Data}
 use Rattle.contract.specs.declared.Data.TheVariants.{Nothing, Carnet, Urban}
 use Rattle.contract.specs.declared.Contract.{Contract}
-use Rattle.contract.specs.declared.ContractRead.{ContractRead}
-use Rattle.contract.specs.declared.ContractRead.TheVariants.{Read, Refused}
+use Rattle.std.specs.Prelude.{Ok, Err}
 
 -- The numbers of the head behind its bitmap.
 abbrev pub behind : Contract → List ℕ
@@ -216,8 +215,8 @@ data_told (Urban d) = 80 ∷ numbers50 d
 
 -- The cases of the answer to a reading, each by its number, its place, its field and its values.
 abbrev pub contract_told : ContractRead → Told
-contract_told (Read c) = told_value (head_numbers c ++ (data_told c.«data» ++ words_of c.margin))
-contract_told (Refused r) = told_refusal 14 r
+contract_told (Ok c) = told_value (head_numbers c ++ (data_told c.«data» ++ words_of c.margin))
+contract_told (Err r) = told_refusal 14 r
 
 -- Refusal 1 for the length comes first, then 3 for the type.
 abbrev pub checked : {A : Type 0} → ℕ → List ℕ → A → (ℕ → A) → A
@@ -226,7 +225,7 @@ checked kind bytes go stop = pick (eqb (length bytes) 29) (pick (known kind) go 
 -- Reading a contract under a type.
 abbrev pub contract_read : ℕ → List ℕ → ContractRead
 contract_read kind bytes =
-    checked kind bytes (read_record (λ vals margin. Read (contract_of kind vals margin)) Refused (table_of kind) bytes) (λ n. Refused (refusal n 0))
+    checked kind bytes (read_record (λ vals margin. Ok (contract_of kind vals margin)) Err (table_of kind) bytes) (λ n. Err (refusal n 0))
 
 -- Data agree with bit [6] and the type: none where it is zero, those of the type where it is one.
 abbrev pub suit : ℕ → Bool → Data → Bool

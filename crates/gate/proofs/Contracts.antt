@@ -21,10 +21,10 @@ use Rattle.rows.specs.Table.Contract.{head, data42, data50, contract42, contract
 use Rattle.rows.proofs.Boxes.{total-append}
 use Rattle.records.specs.Answer.{refusal, refusal_at, answered, valued, read_record}
 use Rattle.contract.specs.Contract.{table_of, contract_of, known, contract_read}
-use Rattle.records.specs.declared.Refusal.{Refusal}
+use Rattle.records.specs.Answer.{Answer}
 use Rattle.contract.specs.declared.Contract.{Contract}
-use Rattle.contract.specs.declared.ContractRead.{ContractRead}
-use Rattle.contract.specs.declared.ContractRead.TheVariants.{Read, Refused}
+use Rattle.contract.specs.Contract.{ContractRead}
+use Rattle.std.specs.Prelude.{Ok, Err}
 use Rattle.gate.specs.Writes.{applying, called, AllAccepted, writes_in}
 use Rattle.gate.proofs.Laws.{accepted_call}
 use Rattle.gate.proofs.Raised.{AllSpare, together, calls_raise}
@@ -136,20 +136,20 @@ pub record Slots (kind : ℕ) (bytes : List ℕ) (c : Contract) : Type 0 where
 
 -- The answer to a contract's reading.
 abbrev answer_of : ℕ → Outcome Content → ContractRead
-answer_of kind o = answered (valued 4 (λ vals margin. Read (contract_of kind vals margin))) Refused o
+answer_of kind o = answered (valued 4 (λ vals margin. Ok (contract_of kind vals margin))) Err o
 
-pub contract_slots : (kind : ℕ) (bytes : List ℕ) (c : Contract) → contract_read kind bytes ≡ Read c → Slots kind bytes c
+pub contract_slots : (kind : ℕ) (bytes : List ℕ) (c : Contract) → contract_read kind bytes ≡ Ok c → Slots kind bytes c
 unfolding read_record
 contract_slots kind bytes c = go (eqb (length bytes) 29) (known kind) (read (table_of kind) (spread 8 bytes)) refl refl refl
   where
     out : (a b : Bool) → Outcome Content → ContractRead
-    out a b o = pick a (pick b (pick a (answer_of kind o) (Refused (refusal 1 0))) (Refused (refusal 3 0))) (Refused (refusal 1 0))
+    out a b o = pick a (pick b (pick a (answer_of kind o) (Err (refusal 1 0))) (Err (refusal 3 0))) (Err (refusal 1 0))
 
-    never : {X : Type 0} (r : Refusal) → Refused r ≡ Read c → X
+    never : {X : Type 0} (r : Answer) → Err r ≡ Ok c → X
     never r h = let z : ◌≡◌ {A = ℕ} 0 1 = cc in absurd (omega arith)
 
     go : (a b : Bool) (o : Outcome Content) → eqb (length bytes) 29 ≡ a → known kind ≡ b → read (table_of kind) (spread 8 bytes) ≡ o
-        → out a b o ≡ Read c → Slots kind bytes c
+        → out a b o ≡ Ok c → Slots kind bytes c
     go true true (done held end) e f g h = record { held = held; end = end; reads = g; value = cc; long = eqb-true _ _ e; type = f }
     go true true (refused n at i) e f g h = never (refusal_at n at i) h
     go true false o e f g h = never (refusal 3 0) h
@@ -165,14 +165,14 @@ module _ (kind slot : ℕ) (judged : Judged (table_of kind) slot) (bytes : List 
 
   contract_raised : AllAccepted bytes calls → AllSpare (table_of kind) s.held.numbers (writes_in calls)
       → contract_read kind (called bytes calls)
-      ≡ pick (ltb 1439 (get_or raised slot 0)) (Refused (refusal_at 4 (total (take slot (frame (table_of kind) s.held.numbers))) slot))
-      (Read (contract_of kind raised raised_margin))
+      ≡ pick (ltb 1439 (get_or raised slot 0)) (Err (refusal_at 4 (total (take slot (frame (table_of kind) s.held.numbers))) slot))
+      (Ok (contract_of kind raised raised_margin))
   unfolding read_record raised_to
   contract_raised accepted spare =
       let long : length (called bytes calls) ≡ 29 = called_length bytes calls s.long accepted in
       let told = judged (frame (table_of kind) s.held.numbers) raised in
-      ap (λ (t : Bool). pick t (pick (known kind) (record_answer t) (Refused (refusal 3 0))) (Refused (refusal 1 0))) (eq-eqb _ _ long)
-      ∙ ap (λ (t : Bool). pick t (record_answer true) (Refused (refusal 3 0))) s.type
+      ap (λ (t : Bool). pick t (pick (known kind) (record_answer t) (Err (refusal 3 0))) (Err (refusal 1 0))) (eq-eqb _ _ long)
+      ∙ ap (λ (t : Bool). pick t (record_answer true) (Err (refusal 3 0))) s.type
       ∙ ap (answer_of kind) (calls_raise (table_of kind) bytes calls s.long s.reads accepted spare)
       ∙ ap (λ (o : Outcome (List ℕ)). answer_of kind (and_then o (λ vals last. done (keeping vals) last))) told.1
       ∙ go (ltb 1439 (get_or raised slot 0)) (total (take slot (frame (table_of kind) s.held.numbers))) told.0
@@ -181,11 +181,11 @@ module _ (kind slot : ℕ) (judged : Judged (table_of kind) slot) (bytes : List 
       keeping vals = record { numbers = vals; margin = join s.held.margin (cleared s.end (together (writes_in calls))) }
 
       record_answer : Bool → ContractRead
-      record_answer t = pick t (answer_of kind (read (table_of kind) (spread 8 (called bytes calls)))) (Refused (refusal 1 0))
+      record_answer t = pick t (answer_of kind (read (table_of kind) (spread 8 (called bytes calls)))) (Err (refusal 1 0))
 
       go : (t : Bool) (place end : ℕ)
           → answer_of kind (and_then (pick t (refused 4 place slot) (done raised end)) (λ vals last. done (keeping vals) last))
-          ≡ pick t (Refused (refusal_at 4 place slot)) (Read (contract_of kind raised raised_margin))
+          ≡ pick t (Err (refusal_at 4 place slot)) (Ok (contract_of kind raised raised_margin))
       go true place end = refl
       go false place end = refl
 
@@ -195,8 +195,8 @@ pub carnet_raised : (bytes : List ℕ) (calls : List (List ℕ)) (c : Contract) 
     → AllSpare contract42 s.held.numbers (writes_in calls)
     → contract_read 66 (called bytes calls)
     ≡ pick (ltb 1439 (get_or (after contract42 s.held.numbers (together (writes_in calls))) 12 0))
-    (Refused (refusal_at 4 (total (take 12 (frame contract42 s.held.numbers))) 12))
-    (Read
+    (Err (refusal_at 4 (total (take 12 (frame contract42 s.held.numbers))) 12))
+    (Ok
     (contract_of 66 (after contract42 s.held.numbers (together (writes_in calls)))
     (cut 64 64 4 (join s.held.margin (cleared s.end (together (writes_in calls)))))))
 carnet_raised bytes calls c s = contract_raised 66 12 carnet_judged bytes calls c s
@@ -207,8 +207,8 @@ pub urban_raised : (bytes : List ℕ) (calls : List (List ℕ)) (c : Contract) (
     → AllSpare contract50 s.held.numbers (writes_in calls)
     → contract_read 80 (called bytes calls)
     ≡ pick (ltb 1439 (get_or (after contract50 s.held.numbers (together (writes_in calls))) 42 0))
-    (Refused (refusal_at 4 (total (take 42 (frame contract50 s.held.numbers))) 42))
-    (Read
+    (Err (refusal_at 4 (total (take 42 (frame contract50 s.held.numbers))) 42))
+    (Ok
     (contract_of 80 (after contract50 s.held.numbers (together (writes_in calls)))
     (cut 64 64 4 (join s.held.margin (cleared s.end (together (writes_in calls)))))))
 urban_raised bytes calls c s = contract_raised 80 42 urban_judged bytes calls c s

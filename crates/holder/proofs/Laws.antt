@@ -17,7 +17,7 @@ use Rattle.rows.proofs.Refusing.{read_refused, within}
 use Rattle.records.specs.Answer.{Written, refusal, accepted, denied, written, answered, valued, content, area_length, read_area, write_area}
 use Rattle.holder.specs.Holder.{Spelled, numbers_of, holder_of, read_of, unread, holder_read, holder_written}
 use Rattle.holder.specs.declared.Holder.{Holder}
-use Rattle.holder.specs.declared.HolderRead.{HolderRead}
+use Rattle.holder.specs.Holder.{HolderRead}
 use Rattle.records.proofs.Answering.{area_room}
 use Rattle.records.proofs.Inverse.{from_all, slots_read_write, slots_write_read}
 use Rattle.records.proofs.Coming.{ComesTo, unwritten, comes_within, area_comes, area_write_comes}

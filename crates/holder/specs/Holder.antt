@@ -2,9 +2,8 @@
 use Rattle.std.specs.Prelude.{ℕ, ◌+◌, List, [], ◌∷◌, ◌++◌, ◌≡◌, length, get_or}
 use Rattle.rows.specs.Table.Holder.{holder}
 use Rattle.records.specs.Answer.{Written, refusal, read_area, write_area, from}
-use Rattle.records.specs.declared.Refusal.{Refusal}
+use Rattle.records.specs.Answer.{Answer}
 use Rattle.holder.specs.declared.Holder.{Holder}
-use Rattle.holder.specs.declared.HolderRead.{HolderRead}
 use Rattle.holder.specs.declared.Profile.{Profile}
 
 -- The numbers of a profile.
@@ -101,7 +100,7 @@ abbrev pub read_of : Holder → HolderRead
 read_of h = record { refusal = refusal 0 0; holder = h }
 
 -- Refused, the Holder is of zeros.
-abbrev pub unread : Refusal → HolderRead
+abbrev pub unread : Answer → HolderRead
 unread r = record { refusal = r; holder = holder_of [] [] }
 
 abbrev pub holder_read : List ℕ → HolderRead

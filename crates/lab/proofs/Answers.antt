@@ -13,7 +13,7 @@ use Rattle.lab.specs.declared.state.State.{State}
 use Rattle.lab.proofs.Following.{outcome, followed}
 use Rattle.records.specs.Answer.{refusal, refusal_at, answered, valued, from, read_record, area_length, read_area}
 use Rattle.lists.specs.Listing.{read_list}
-use Rattle.records.specs.declared.Refusal.{Refusal}
+use Rattle.records.specs.Answer.{Answer}
 
 -- The first numbers, by name.
 front_from : (l : List ℕ) (i n : ℕ) → i + n ≤ length l → from i n l ≡ take n (drop i l)
@@ -73,14 +73,14 @@ module _ (rows : List Row) (most : ℕ) (bytes : List ℕ) (n : ℕ) (s : State)
       let inside : 0 + slots rows ≤ length (take n s.numbers) = omega (arith, fits.count) in
       rw same (front_from (take n s.numbers) 0 (slots rows) inside) ∙ take-take (slots rows) n s.numbers fits.count
 
-  module _ {r : Refusal} {numbers margin : List ℕ} where
+  module _ {r : Answer} {numbers margin : List ℕ} where
     -- What the readings with a margin give,
     pub reads_refused : (s.why ≡ 0 → ⊥) → r ≡ refusal_at s.why s.start s.row → Reads rows bytes r numbers margin
     reads_refused why e =
         record {
           end = 0;
           says = rw (e, ne_eqb _ _ why) (tells_refused why);
-          kept = λ z. absurd (why (ap (λ (r : Refusal). r.number) (sym e) ∙ z));
+          kept = λ z. absurd (why (ap (λ (r : Answer). r.number) (sym e) ∙ z));
         }
 
     pub reads_all : s.why ≡ 0 → r ≡ refusal 0 0 → n ≤ length s.numbers → numbers ≡ take n s.numbers
@@ -89,7 +89,7 @@ module _ (rows : List Row) (most : ℕ) (bytes : List ℕ) (n : ℕ) (s : State)
         let long : length margin ≡ words = ap length left ∙ length_cut 64 64 words (cleared s.start (spread 8 bytes)) in
         record { end = s.start; says = rw (e, firsts wide same) (tells_read ok); kept = λ z. rw long left }
 
-  module _ {r : Refusal} {numbers : List ℕ} where
+  module _ {r : Answer} {numbers : List ℕ} where
     -- and those of a list.
     pub bare_refused : (s.why ≡ 0 → ⊥) → r ≡ refusal_at s.why s.start s.row → ReadsBare rows bytes r numbers
     unfolding read_bare
@@ -112,9 +112,9 @@ module _ (rows : List Row) (most : ℕ) (bytes : List ℕ) (n : ℕ) (s : State)
         record { end = s.start; says = rw (tells_read ok, eq-eqb _ _ all, e, firsts wide same) }
 
 -- The answers that readings come to, of rows that are a table of n slots.
-module _ {A : Type 0} {rows laid : List Row} {bytes : List ℕ} {r : Refusal} {numbers : List ℕ} (n : ℕ)
+module _ {A : Type 0} {rows laid : List Row} {bytes : List ℕ} {r : Answer} {numbers : List ℕ} (n : ℕ)
     (table : laid ≡ rows) (count : slots rows ≡ n) where
-  module _ {margin : List ℕ} (words : ℕ) (good : List ℕ → List ℕ → A) (bad : Refusal → A) (long : length margin ≡ words)
+  module _ {margin : List ℕ} (words : ℕ) (good : List ℕ → List ℕ → A) (bad : Answer → A) (long : length margin ≡ words)
       (reads : Reads laid bytes r numbers margin) where
     -- A reading is one of the table.
     says : read rows (spread 8 bytes) ≡ by r (holding (spread 8 bytes) (from 0 n numbers) reads.end) reads.end
@@ -126,7 +126,7 @@ module _ {A : Type 0} {rows laid : List Row} {bytes : List ℕ} {r : Refusal} {n
     gives : r.number ≡ 0 → good (from 0 n numbers) margin ≡ answered (valued words good) bad (read rows (spread 8 bytes))
     gives ok = rw (says, eq-eqb _ _ ok) (ap (good (from 0 n numbers)) (rw long at (reads.kept ok)))
 
-  module _ {margin : List ℕ} (good : List ℕ → List ℕ → A) (bad : Refusal → A) (reads : Reads laid bytes r numbers margin) where
+  module _ {margin : List ℕ} (good : List ℕ → List ℕ → A) (bad : Answer → A) (reads : Reads laid bytes r numbers margin) where
     -- Of a record: refused, and read.
     pub record_stops : length bytes ≡ 29 → length margin ≡ 4 → (r.number ≡ 0 → ⊥) → bad r ≡ read_record good bad rows bytes
     unfolding read_record
@@ -146,7 +146,7 @@ module _ {A : Type 0} {rows laid : List Row} {bytes : List ℕ} {r : Refusal} {n
     area_gives whole long ok = rw whole (gives 15 good bad long reads ok)
 
   -- Of a list, which then is held to its rule.
-  module _ (good : List ℕ → A) (bad : Refusal → A) (fault : List ℕ → ℕ) {outside : Bool} (reads : ReadsBare laid bytes r numbers)
+  module _ (good : List ℕ → A) (bad : Answer → A) (fault : List ℕ → ℕ) {outside : Bool} (reads : ReadsBare laid bytes r numbers)
       (whole : length bytes ≡ 29) (inside : outside ≡ false) where
     says_bare : read_bare rows (spread 8 bytes) ≡ by r (from 0 n numbers) reads.end
     says_bare = rw (table, count) at reads.says

@@ -15,7 +15,7 @@ use Rattle.rows.proofs.Refusing.{Refuses, refuses_then, refuses_behind, bare_wri
 use Rattle.records.specs.Answer.{refusal, accepted, answered}
 use Rattle.records.proofs.Coming.{ComesTo, unwritten, either, stops, answered_comes, written_comes, bare_bytes_number}
 use Rattle.lists.specs.Listing.{obeying, read_list, write_list}
-use Rattle.records.specs.declared.Refusal.{Refusal}
+use Rattle.records.specs.Answer.{Answer}
 
 -- Held to a list's rule, an outcome can also be refused with 6; and there are 1 and 11 before it.
 obeying_number : {A : Type 0} (k : A → ℕ) (ns : List ℕ) (o : Outcome A) → Refuses ns o
@@ -27,7 +27,7 @@ obeying_number {A} k ns o why =
     go true a end place = tt
     go false a end place = record { some = λ z. omega arith; listed = refl; named = refl }
 
-module _ {A B : Type 0} {good : A → B} {bad : Refusal → B} (value_of : List ℕ → A) (fault : List ℕ → ℕ) (outside : Bool) (rows : List Row) (bytes : List ℕ) where
+module _ {A B : Type 0} {good : A → B} {bad : Answer → B} (value_of : List ℕ → A) (fault : List ℕ → ℕ) (outside : Bool) (rows : List Row) (bytes : List ℕ) where
   pub listing_comes : ComesTo good bad (1 ∷ 11 ∷ 6 ∷ bare_numbers 232 rows) (read_list (λ vals. good (value_of vals)) bad fault outside rows bytes)
   unfolding read_list
   listing_comes = go (eqb (length bytes) 29) refl

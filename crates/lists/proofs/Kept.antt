@@ -25,7 +25,7 @@ use Rattle.lists.specs.List.{entries_of, list_of, got_list, no_list, list_fault,
 use Rattle.lists.specs.Entries.{counted, without}
 use Rattle.lists.specs.declared.list.Entry.{Entry}
 use Rattle.lists.specs.declared.list.ContractList.{ContractList}
-use Rattle.lists.specs.declared.list.ListRead.{ListRead}
+use Rattle.lists.specs.List.{ListRead}
 use Rattle.lists.proofs.list.Laws.{list_comes}
 
 -- Pointers keep the rule behind some others: from 1 to a limit, and none twice.

@@ -24,7 +24,7 @@ use Rattle.records.proofs.Answering.{all_words, packed_answer}
 use Rattle.lists.specs.Listing.{obeying, read_list, write_list}
 use Rattle.lists.specs.List.{fairly}
 use Rattle.lists.specs.Inner.Steps.{obeyed, tallied}
-use Rattle.records.specs.declared.Refusal.{Refusal}
+use Rattle.records.specs.Answer.{Answer}
 
 -- The length of an array of structs, which the checker knows of a list mapped from it.
 pub length_of_map : (A B : Type 0) (f : A → B) (l : List A) (n : ℕ) → length (map f l) ≡ n → length l ≡ n
@@ -119,7 +119,7 @@ obeyed_none c k = go (eqb c.why 0) refl (eqb k 0) refl
     go true e false h ok = absurd (omega arith)
     go false e t h ok = absurd (eqb-false _ _ e ok)
 
-module _ {A : Type 0} (good : List ℕ → A) (bad : Refusal → A) (fault : List ℕ → ℕ) (outside : Bool) (rows : List Row) (bytes : List ℕ) where
+module _ {A : Type 0} (good : List ℕ → A) (bad : Answer → A) (fault : List ℕ → ℕ) (outside : Bool) (rows : List Row) (bytes : List ℕ) where
   pub list_short : (length bytes ≡ 29 → ⊥) → bad (refusal 1 0) ≡ read_list good bad fault outside rows bytes
   unfolding read_list
   list_short short = rw (ne_eqb _ _ short)
@@ -161,7 +161,7 @@ module _ (fault : List ℕ → ℕ) (outside : Bool) (rows : List Row) (vals bef
   list_unwritten_outside whole out = rw (eq-eqb _ _ whole, out)
 
   -- These stand before the tally is looked at.
-  pub fairly_unwritten : (is_fair : Bool) (r : Refusal) → eqb r.number 0 ≡ false → denied r before ≡ write_list fault outside rows vals before
+  pub fairly_unwritten : (is_fair : Bool) (r : Answer) → eqb r.number 0 ≡ false → denied r before ≡ write_list fault outside rows vals before
       → denied r before ≡ fairly is_fair before (write_list fault outside rows vals before)
   fairly_unwritten is_fair r some e = rw (← e, some)
 

@@ -14,7 +14,7 @@ use Rattle.rows.proofs.RoundTrip.{bare_slots}
 use Rattle.rows.proofs.Refusing.{bare_refused, bare_write_refused}
 use Rattle.records.specs.Answer.{Written, refusal, refusal_at, accepted, denied, written, answered}
 use Rattle.lists.specs.Listing.{obeying, read_list, write_list}
-use Rattle.records.specs.declared.Refusal.{Refusal}
+use Rattle.records.specs.Answer.{Answer}
 use Rattle.records.proofs.Inverse.{bare_slots_read_write, bare_slots_write_read}
 
 -- A list that keeps its rule is written as its table is.
@@ -35,9 +35,9 @@ written_obeying rows vals before after k = go (write_bare rows 232 vals) refl (e
     go (done bs end) e false some h = absurd (let six : ◌≡◌ {A = ℕ} 6 0 = ap (λ (w : Written). w.answer.number) h in omega arith)
     go (refused n at i) e t some h = absurd (bare_write_refused rows 232 vals e (ap (λ (w : Written). w.answer.number) h))
 
-module _ {L A : Type 0} (good : L → A) (bad : Refusal → A)
+module _ {L A : Type 0} (good : L → A) (bad : Answer → A)
     (same : (a b : L) → good a ≡ good b → a ≡ b)
-    (apart : (r : Refusal) (l : L) → bad r ≡ good l → r.number ≡ 0)
+    (apart : (r : Answer) (l : L) → bad r ≡ good l → r.number ≡ 0)
     (fault : List ℕ → ℕ) (outside : Bool) (rows : List Row) (numbers_of : L → List ℕ) (value_of : List ℕ → L) where
   -- A list that was read, written onto any record, is the same bytes.
   pub listing_read_write : ((vals : List ℕ) → length vals ≡ slots rows → numbers_of (value_of vals) ≡ vals)

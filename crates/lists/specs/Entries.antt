@@ -7,12 +7,12 @@ use Rattle.rows.specs.Change.{place_of}
 use Rattle.rows.specs.Table.BestContracts.{contract_list}
 use Rattle.records.specs.Answer.{refusal_at, named}
 use Rattle.records.specs.Order.{Attempt, got, stopped}
-use Rattle.records.specs.declared.Refusal.{Refusal}
+use Rattle.records.specs.Answer.{Answer}
 use Rattle.lists.specs.List.{entry_of, entry_at, numbers_of}
 use Rattle.lists.specs.Tally.{used_up, how_many, tally_of, entered, removed, revalued, at_pointer}
 use Rattle.lists.specs.declared.list.Entry.{Entry}
 use Rattle.lists.specs.declared.list.ContractList.{ContractList}
-use Rattle.lists.specs.declared.list.ListRead.{ListRead}
+use Rattle.lists.specs.List.{ListRead}
 
 -- The counted entries.
 abbrev pub counted : ContractList → List Entry
@@ -102,5 +102,5 @@ abbrev pub list_bits : List Entry → ℕ
 list_bits es = total (list_fields es)
 
 -- Where it takes more than a record's 232: 2 at the first field that ends past them, by its place and its rank.
-abbrev pub overfull : List Entry → Refusal
+abbrev pub overfull : List Entry → Answer
 overfull es = refusal_at 2 (first_past 232 (list_fields es) 0) (rank_past 232 (list_fields es) 0 0)

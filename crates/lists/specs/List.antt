@@ -5,10 +5,9 @@ use Rattle.rows.specs.Table.BestContracts.{contract_list}
 use Rattle.records.specs.Answer.{Written, refusal, denied}
 use Rattle.lists.specs.Listing.{at_fault, read_list, write_list}
 use Rattle.lists.specs.Tally.{tally_of, same_tally}
-use Rattle.records.specs.declared.Refusal.{Refusal}
+use Rattle.records.specs.Answer.{Answer}
 use Rattle.lists.specs.declared.list.Entry.{Entry}
 use Rattle.lists.specs.declared.list.ContractList.{ContractList}
-use Rattle.lists.specs.declared.list.ListRead.{ListRead}
 use Rattle.lists.specs.declared.tally.Positions.{Positions}
 use Rattle.lists.specs.declared.tally.Tally.{Tally}
 
@@ -80,7 +79,7 @@ abbrev pub no_tally : Tally
 no_tally = record { counter = no_positions; plain = no_positions }
 
 -- Refused, the list is all zeros, its tally too.
-abbrev pub no_list : Refusal → ListRead
+abbrev pub no_list : Answer → ListRead
 no_list r = record { refusal = r; list = record { count = 0; entries = entries_of []; tally = no_tally } }
 
 abbrev pub list_read : ℕ → ℕ → List ℕ → ListRead

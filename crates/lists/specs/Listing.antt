@@ -7,7 +7,7 @@ use Rattle.rows.specs.Row.{Row, pick}
 use Rattle.rows.specs.Walk.{Outcome, done, refused, and_then, read_bare, write_bare}
 use Rattle.records.specs.Answer.{Written, refusal, denied, written, answered}
 use Rattle.lists.specs.Rules.{first_at_fault}
-use Rattle.records.specs.declared.Refusal.{Refusal}
+use Rattle.records.specs.Answer.{Answer}
 
 -- One number of each of n entries of size slots, from a slot on.
 abbrev pub column : ℕ → ℕ → ℕ → List ℕ → List ℕ
@@ -25,7 +25,7 @@ abbrev pub obeying : {A : Type 0} → ℕ → A → ℕ → Outcome A
 obeying k a end = pick (eqb k 0) (done a end) (refused 6 k 0)
 
 -- Reading a list from a record: 1; 11 where its parameter is outside its limits; the walk and 5; 6.
-unfoldable pub read_list : {A : Type 0} → (List ℕ → A) → (Refusal → A) → (List ℕ → ℕ) → Bool → List Row → List ℕ → A
+unfoldable pub read_list : {A : Type 0} → (List ℕ → A) → (Answer → A) → (List ℕ → ℕ) → Bool → List Row → List ℕ → A
 read_list good bad fault outside rows bytes =
     pick (eqb (length bytes) 29)
     (pick outside (bad (refusal 11 0)) (answered good bad (and_then (read_bare rows (spread 8 bytes)) (λ vals end. obeying (fault vals) vals end))))

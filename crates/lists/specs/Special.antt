@@ -3,10 +3,9 @@ use Rattle.std.specs.Prelude.{ℕ, ◌+◌, List, [], ◌∷◌, ◌++◌, ltb, 
 use Rattle.rows.specs.Table.Special.{special_list}
 use Rattle.records.specs.Answer.{Written, refusal}
 use Rattle.lists.specs.Listing.{at_fault, read_list, write_list}
-use Rattle.records.specs.declared.Refusal.{Refusal}
+use Rattle.records.specs.Answer.{Answer}
 use Rattle.lists.specs.declared.special.SpecialEntry.{SpecialEntry}
 use Rattle.lists.specs.declared.special.SpecialList.{SpecialList}
-use Rattle.lists.specs.declared.special.SpecialRead.{SpecialRead}
 
 abbrev pub entry_numbers : SpecialEntry → List ℕ
 entry_numbers e = e.bitmap ∷ e.network ∷ e.provider ∷ e.seriousness ∷ e.pointer ∷ []
@@ -48,7 +47,7 @@ abbrev pub got_special : SpecialList → SpecialRead
 got_special l = record { refusal = refusal 0 0; list = l }
 
 -- Refused, the list is all zeros.
-abbrev pub no_special : Refusal → SpecialRead
+abbrev pub no_special : Answer → SpecialRead
 no_special r = record { refusal = r; list = special_of [] }
 
 -- A card has 0 to 4 special event records.

@@ -12,12 +12,12 @@ use Rattle.rows.specs.Row.{pick, among}
 use Rattle.rows.proofs.Margins.{both}
 use Rattle.records.specs.Answer.{refusal}
 use Rattle.records.specs.Order.{Attempt, got, stopped, next, needs}
-use Rattle.records.specs.declared.Refusal.{Refusal}
+use Rattle.records.specs.Answer.{Answer}
 use Rattle.lists.specs.List.{got_list, list_read}
 use Rattle.lists.specs.Entries.{counted, listing, without, appended}
 use Rattle.lists.specs.declared.list.Entry.{Entry}
 use Rattle.lists.specs.declared.list.ContractList.{ContractList}
-use Rattle.lists.specs.declared.list.ListRead.{ListRead}
+use Rattle.lists.specs.List.{ListRead}
 use Rattle.lists.proofs.list.Laws.{list_fair}
 use Rattle.lists.proofs.Entries.{length_without}
 use Rattle.lists.proofs.Tallying.{among_in_use}
@@ -124,18 +124,18 @@ module _ (o : Order) (list file : List ℕ) (lent : Lent) where
   unread_none = go (lengths o (lengths_of list file lent)) refl (limits o (length lent.journal / 29)) refl
     where
       go : (a : Bool) → lengths o (lengths_of list file lent) ≡ a → (b : Bool) → limits o (length lent.journal / 29) ≡ b
-          → (pick {A = Refusal} a (pick b (refusal 0 0) (refusal 11 0)) (refusal 1 0)).number ≡ 0 → Card o list file lent
+          → (pick {A = Answer} a (pick b (refusal 0 0) (refusal 11 0)) (refusal 1 0)).number ≡ 0 → Card o list file lent
       go true l true k h = agreed l k
       go true l false k h = absurd (omega arith)
       go false l b k h = absurd (omega arith)
 
-  pub refused_unread : (r : Refusal) → r ≡ unread o (lengths_of list file lent) → (r.number ≡ 0 → ⊥) → loaded r 0 list file ≡ loading o list file lent
+  pub refused_unread : (r : Answer) → r ≡ unread o (lengths_of list file lent) → (r.number ≡ 0 → ⊥) → loaded r 0 list file ≡ loading o list file lent
   unfolding loading finding
   refused_unread r same other = go (lengths o (lengths_of list file lent)) (limits o (length lent.journal / 29)) same
     where
       go : (a b : Bool) → r ≡ pick a (pick b (refusal 0 0) (refusal 11 0)) (refusal 1 0)
           → loaded r 0 list file ≡ settled o list file lent.new (needs a 1 (needs b 11 (placing o list lent)))
-      go true true e = absurd (other (ap (λ (x : Refusal). x.number) e))
+      go true true e = absurd (other (ap (λ (x : Answer). x.number) e))
       go true false e = rw e
       go false b e = rw e
 
@@ -168,12 +168,12 @@ module _ (o : Order) (list file : List ℕ) (lent : Lent) where
             go (got is_blocked) (stopped y) = refl
             go (stopped y) u = refl
 
-        module _ {marks : List Bool} {x : Refusal} (m : Marking (rest_read o lent) (λ b. b) (replicate 9 false) marks x) where
+        module _ {marks : List Bool} {x : Answer} (m : Marking (rest_read o lent) (λ b. b) (replicate 9 false) marks x) where
           refused_rest : (x.number ≡ 0 → ⊥) → loaded x 0 list file ≡ loading o list file lent
           refused_rest other = go (rest_read o lent) refl m.answer
             where
               go : (t : Attempt (ℕ → Bool)) → rest_read o lent ≡ t → x ≡ refusal_of t → loaded x 0 list file ≡ loading o list file lent
-              go (got b) e h = absurd (other (ap (λ (r : Refusal). r.number) h))
+              go (got b) e h = absurd (other (ap (λ (r : Answer). r.number) h))
               go (stopped y) e h = rw (read_list, e, h)
 
           named_place : (blocked : ℕ → Bool) (p : ℕ) → rest_read o lent ≡ got blocked
@@ -203,7 +203,7 @@ module _ (o : Order) (list file : List ℕ) (lent : Lent) where
               named_place blocked _ all (same_place o.n o.c o.counter (counted r.list) card.most card.counters)
 
       -- What is done when the rest is read, over fresh marks.
-      pub ends : {marks : List Bool} {x : Refusal} → Marking (rest_read o lent) (λ b. b) (replicate 9 false) marks x
+      pub ends : {marks : List Bool} {x : Answer} → Marking (rest_read o lent) (λ b. b) (replicate 9 false) marks x
           → ended o list file lent.new x (marked marks) r ≡ loading o list file lent
       unfolding ended
       ends {marks} {x} m = go (eqb r.refusal.number 0) refl (eqb x.number 0) refl
@@ -216,7 +216,7 @@ module _ (o : Order) (list file : List ℕ) (lent : Lent) where
           go false e b f = refused_list (eqb-false _ _ e)
 
     -- What writing the new contract to its place asks for, where the end is accepted.
-    pub accepts : {marks : List Bool} {x : Refusal} (out : Outcome)
+    pub accepts : {marks : List Bool} {x : Answer} (out : Outcome)
         → out ≡ ended o list file lent.new x (marked marks) (list_read o.n o.c list)
         → Marking (rest_read o lent) (λ b. b) (replicate 9 false) marks x → out.answer.refusal.number ≡ 0
         → (1 ≤ out.answer.pointer) × (29 * out.answer.pointer ≤ length file) × (length lent.new ≡ 29)

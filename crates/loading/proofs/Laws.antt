@@ -16,7 +16,7 @@ use Rattle.rows.proofs.Margins.{both}
 use Rattle.rows.proofs.Refusing.{Refusing}
 use Rattle.records.specs.Answer.{Written, refusal, accepted}
 use Rattle.records.specs.Order.{Attempt, got, stopped, next, needs, record_from}
-use Rattle.records.specs.declared.Refusal.{Refusal}
+use Rattle.records.specs.Answer.{Answer}
 use Rattle.records.proofs.Coming.{ComesTo, fine, faulty, comes_within, stops, written_taken}
 use Rattle.lists.specs.List.{got_list, list_read, list_written}
 use Rattle.lists.specs.Entries.{counted, listing, attempted, without, list_bits, overfull}
@@ -27,12 +27,12 @@ use Rattle.lists.proofs.Sounding.{Good, made_good, good_without, good_append, re
 use Rattle.lists.proofs.list.Laws.{list_write_read, list_write_comes}
 use Rattle.contract.specs.Contract.{contract_read}
 use Rattle.contract.specs.declared.Contract.{Contract}
-use Rattle.contract.specs.declared.ContractRead.{ContractRead}
-use Rattle.contract.specs.declared.ContractRead.TheVariants.{Read, Refused}
+use Rattle.contract.specs.Contract.{ContractRead}
+use Rattle.std.specs.Prelude.{Ok, Err}
 use Rattle.loading.specs.Place.{erasable, place, afterwards}
 use Rattle.loading.specs.Loading.{Lent, Found, found, Outcome, contract_got, lengths, lengths_of, entry_fits, limits, loaded, both_or_neither, new_entry, placed, blocking, placing, finding, settled, loading}
 use Rattle.loading.specs.declared.Order.{Order}
-use Rattle.loading.specs.declared.Loaded.{Loaded}
+use Rattle.loading.specs.Loading.{Loaded}
 use Rattle.loading.proofs.Placing.{Named, placed_free_or_erasable}
 use Rattle.loading.proofs.Told.{apart, readings, Stops, list_stops, blocking_stops, contract_stops}
 use Rattle.loading.proofs.Ending.{Card, unread_none, free_among, room_for}
@@ -104,7 +104,7 @@ pub record AllRead (o : Order) (list file : List ℕ) (lent : Lent) : Type 0 whe
   pub blocked : ℕ → Bool
   pub events : blocking o lent.special lent.journal lent.records lent.codes ≡ got blocked
   pub new : Contract
-  pub contract : contract_read o.kind lent.new ≡ Read new
+  pub contract : contract_read o.kind lent.new ≡ Ok new
 
 -- The pointer that the rule names then.
 abbrev pub named_by : {o : Order} {list file : List ℕ} {lent : Lent} → AllRead o list file lent → ℕ
@@ -125,13 +125,13 @@ attempted_got n c list l = go (eqb (list_read n c list).refusal.number 0) refl
     go true e h = let same : (list_read n c list).list ≡ l = cc in list_got n c list (eqb-true _ _ e) ∙ ap got_list same
     go false e h = apart (sym h)
 
-contract_got_law : (r : ContractRead) (c : Contract) → contract_got r ≡ got c → r ≡ Read c
-contract_got_law (Read d) c h = cc
-contract_got_law (Refused x) c h = apart (sym h)
+contract_got_law : (r : ContractRead) (c : Contract) → contract_got r ≡ got c → r ≡ Ok c
+contract_got_law (Ok d) c h = cc
+contract_got_law (Err x) c h = apart (sym h)
 
 -- How the steps before the last end: with a refusal; with all read, and no pointer named; with a pointer.
 data Ended (o : Order) (list file : List ℕ) (lent : Lent) : Attempt Found → Type 0 where
-  halted : (r : Refusal) → Refusing r.number r.field readings → Ended o list file lent (stopped r)
+  halted : (r : Answer) → Refusing r.number r.field readings → Ended o list file lent (stopped r)
   nowhere : (a : AllRead o list file lent) → named_by a ≡ 0 → Ended o list file lent (stopped (refusal 9 0))
   somewhere : (a : AllRead o list file lent) → (named_by a ≡ 0 → ⊥) → Ended o list file lent (got (record { entries = counted a.l; pointer = named_by a }))
 
@@ -224,7 +224,7 @@ pub record Accepted (o : Order) (list file : List ℕ) (lent : Lent) (out : Outc
 abbrev pub loaded_as : ℕ × List ℕ × List ℕ → Outcome
 loaded_as x = loaded (refusal 0 0) x.0 x.1 x.2
 
-abbrev pub unloaded : List ℕ → List ℕ → Refusal → Outcome
+abbrev pub unloaded : List ℕ → List ℕ → Answer → Outcome
 unloaded list file r = loaded r 0 list file
 
 module _ (o : Order) (list file : List ℕ) (lent : Lent) where
@@ -299,7 +299,7 @@ module _ (o : Order) (list file : List ℕ) (lent : Lent) where
   record_afterwards a = ap (λ (l : List ℕ). record_from l (out.answer.pointer - 1)) a.filed ∙ placed_own out.answer.pointer lent.new file a.all.card.new_long (inside a)
 
   -- where it reads as the new contract;
-  pub contract_afterwards : (a : Accepted o list file lent out) → contract_read o.kind (record_from out.file (out.answer.pointer - 1)) ≡ Read a.all.new
+  pub contract_afterwards : (a : Accepted o list file lent out) → contract_read o.kind (record_from out.file (out.answer.pointer - 1)) ≡ Ok a.all.new
   contract_afterwards a = rw (record_afterwards a) a.all.contract
 
   -- every other contract record is as before.

@@ -14,15 +14,15 @@ use Rattle.records.specs.Answer.{refusal}
 use Rattle.records.specs.Event.{event_told, event_read}
 use Rattle.records.proofs.Telling.{event_one}
 use Rattle.records.specs.Order.{Attempt, got, stopped, next, record_from, events}
-use Rattle.records.specs.declared.Refusal.{Refusal}
+use Rattle.records.specs.Answer.{Answer}
 use Rattle.records.specs.declared.event.Event.{Event}
-use Rattle.records.specs.declared.event.EventRead.{EventRead}
-use Rattle.records.specs.declared.event.EventRead.TheVariants.{Read, Refused}
+use Rattle.records.specs.Event.{EventRead}
+use Rattle.std.specs.Prelude.{Ok, Err}
 use Rattle.contract.specs.Contract.{contract_read}
 use Rattle.contract.specs.declared.Contract.{Contract}
-use Rattle.contract.specs.declared.ContractRead.{ContractRead}
+use Rattle.contract.specs.Contract.{ContractRead}
 use Rattle.lists.specs.Special.{special_read}
-use Rattle.lists.specs.declared.special.SpecialRead.{SpecialRead}
+use Rattle.lists.specs.Special.{SpecialRead}
 use Rattle.loading.specs.Blocking.{some, moment, blocks, named_by_special, blocked}
 use Rattle.loading.specs.Loading.{Lent, contract_got, blocking}
 use Rattle.loading.specs.declared.Order.{Order}
@@ -30,7 +30,7 @@ use Rattle.loading.specs.Inner.Marks.{marked, refusal_of, Added, Marking}
 use Rattle.loading.specs.Inner.Store.{rest_read}
 use Rattle.loading.proofs.Told.{Stops, events_stop, blocking_stops}
 
-apart : {A : Type 0} {r : Refusal} {a : A} → stopped r ≡ got a → ⊥
+apart : {A : Type 0} {r : Answer} {a : A} → stopped r ≡ got a → ⊥
 apart e = let z : ◌≡◌ {A = ℕ} 0 1 = cc in omega arith
 
 -- A mark that is set.
@@ -76,14 +76,14 @@ module _ (named : ℕ → List Event → ℕ → Bool) (names : ℕ → Event �
   pub record Passed (i : ℕ) (marks : List Bool) : Type 0 where
     pub few : i ≤ n
     pub long : length marks ≡ length start
-    pub all : (after : List Bool) (r : Refusal) → Marking (events (n - i) file i) (named i) marks after r
+    pub all : (after : List Bool) (r : Answer) → Marking (events (n - i) file i) (named i) marks after r
         → Marking (events n file 0) (named 0) start after r
 
   pub passed_none : Passed 0 start
   passed_none = record { few = omega arith; long = refl; all = λ after r m. rw (sub-zero n) at m }
 
   -- An event more.
-  event_more : (i m : ℕ) (marks more after : List Bool) (r : Refusal) (e : Event) → event_read (record_from file i) ≡ Read e → Added (names i e) marks more
+  event_more : (i m : ℕ) (marks more after : List Bool) (r : Answer) (e : Event) → event_read (record_from file i) ≡ Ok e → Added (names i e) marks more
       → Marking (events m file (suc i)) (named (suc i)) more after r → Marking (events (suc m) file i) (named i) marks after r
   event_more i m marks more after r e one added = rw one (go (events m file (suc i)))
     where
@@ -105,7 +105,7 @@ module _ (named : ℕ → List Event → ℕ → Bool) (names : ℕ → Event �
             marks = λ a same. absurd (apart same);
           }
 
-  pub passed_more : {i : ℕ} {marks : List Bool} (more : List Bool) (e : Event) → Passed i marks → i < n → event_read (record_from file i) ≡ Read e
+  pub passed_more : {i : ℕ} {marks : List Bool} (more : List Bool) (e : Event) → Passed i marks → i < n → event_read (record_from file i) ≡ Ok e
       → Added (names i e) marks more → Passed (i + 1) more
   passed_more {i} {marks} more e so h one added =
       let on : n - i ≡ suc (n - suc i) = omega arith in
@@ -116,7 +116,7 @@ module _ (named : ℕ → List Event → ℕ → Bool) (names : ℕ → Event �
       }
 
   -- An event that is refused.
-  pub passed_refused : {i : ℕ} {marks : List Bool} (r : Refusal) → Passed i marks → i < n → event_read (record_from file i) ≡ Refused r
+  pub passed_refused : {i : ℕ} {marks : List Bool} (r : Answer) → Passed i marks → i < n → event_read (record_from file i) ≡ Err r
       → Marking (events n file 0) (named 0) start marks r
   passed_refused {i} {marks} r so h one =
       let on : n - i ≡ suc (n - suc i) = omega arith in
@@ -138,7 +138,7 @@ pub part_read : (file : List ℕ) (i : ℕ) {r x : EventRead} → event_told r �
 part_read file i e f = let size : 29 * i + 29 - 29 * i ≡ 29 = omega arith in sym (event_one _ _ (rw size at e)) ∙ f
 
 -- The time, in other words.
-pub at_time : (attempt : Attempt (List Event)) (codes : List ℕ) {time moment : ℕ} (hours : ℕ) {before after : List Bool} {r : Refusal} → time ≡ moment
+pub at_time : (attempt : Attempt (List Event)) (codes : List ℕ) {time moment : ℕ} (hours : ℕ) {before after : List Bool} {r : Answer} → time ≡ moment
     → Marking attempt (λ es p. some (blocks codes time hours p) es) before after r
     → Marking attempt (λ es p. some (blocks codes moment hours p) es) before after r
 at_time attempt codes {time} {moment} hours {before} {after} {r} e m =
@@ -151,7 +151,7 @@ module _ (o : Order) (special journal records codes : List ℕ) {r : SpecialRead
   blocking_unlisted bad =
       rw (← read, ne_eqb r.refusal.number 0 bad) record { answer = refl; long = refl; marks = λ b same. absurd (apart same) }
 
-  module _ (good : r.refusal.number ≡ 0) {mid : List Bool} {s : Refusal}
+  module _ (good : r.refusal.number ≡ 0) {mid : List Bool} {s : Answer}
       (past : Marking (events (length journal / 29) journal 0) (λ es p. some (blocks codes (moment o.day o.minute) o.hours p) es) before mid s) where
     -- An event of the journal is refused.
     pub blocking_unread : (s.number ≡ 0 → ⊥) → Marking (blocking o special journal records codes) (λ b. b) before mid s
@@ -160,11 +160,11 @@ module _ (o : Order) (special journal records codes : List ℕ) {r : SpecialRead
       where
         go : {test : List Event → ℕ → Bool} (more : List Event → Attempt (ℕ → Bool)) (j : Attempt (List Event)) → Marking j test before mid s
             → Marking (next j more) (λ b. b) before mid s
-        go more (got es) k = absurd (bad (ap (λ (t : Refusal). t.number) k.answer))
+        go more (got es) k = absurd (bad (ap (λ (t : Answer). t.number) k.answer))
         go more (stopped t) k = record { answer = k.answer; long = k.long; marks = λ b same. absurd (apart same) }
 
     -- The journal is read, and the special event records too or not.
-    pub blocking_read : {after : List Bool} {t : Refusal} → s.number ≡ 0 → length records ≡ 29 * o.s
+    pub blocking_read : {after : List Bool} {t : Answer} → s.number ≡ 0 → length records ≡ 29 * o.s
         → Marking (events (length records / 29) records 0) (λ es p. named_by_special (take r.list.count r.list.entries) p 1 es) mid after t
         → Marking (blocking o special journal records codes) (λ b. b) before after t
     unfolding blocking
@@ -177,7 +177,7 @@ module _ (o : Order) (special journal records codes : List ℕ) {r : SpecialRead
             → Marking j (λ es p. some (blocks codes (moment o.day o.minute) o.hours p) es) before mid s
             → (k : Attempt (List Event)) → Marking k (λ es p. named_by_special (take r.list.count r.list.entries) p 1 es) mid after t
             → Marking (next j (λ es. next k (λ fs. got (blocked codes (moment o.day o.minute) o.hours es (take r.list.count r.list.entries) fs)))) (λ b. b) before after t
-        go (stopped x) told first k second = absurd (told.some (sym (ap (λ (y : Refusal). y.number) first.answer) ∙ fine))
+        go (stopped x) told first k second = absurd (told.some (sym (ap (λ (y : Answer). y.number) first.answer) ∙ fine))
         go (got es) told first (stopped x) second =
             record { answer = second.answer; long = second.long ∙ first.long; marks = λ b same. absurd (apart same) }
         go (got es) told first (got fs) second =
@@ -191,7 +191,7 @@ module _ (o : Order) (special journal records codes : List ℕ) {r : SpecialRead
                   };
             }
 
-module _ (o : Order) (lent : Lent) {before after : List Bool} {x : Refusal}
+module _ (o : Order) (lent : Lent) {before after : List Bool} {x : Answer}
     (m : Marking (blocking o lent.special lent.journal lent.records lent.codes) (λ b. b) before after x) where
   -- The events are refused.
   pub rest_unread : (x.number ≡ 0 → ⊥) → Marking (rest_read o lent) (λ b. b) before after x
@@ -200,7 +200,7 @@ module _ (o : Order) (lent : Lent) {before after : List Bool} {x : Refusal}
     where
       go : (t : Attempt (ℕ → Bool)) → Marking t (λ b. b) before after x
           → Marking (next t (λ b. next (contract_got (contract_read o.kind lent.new)) (λ new. got b))) (λ b. b) before after x
-      go (got b) k = absurd (bad (ap (λ (t : Refusal). t.number) k.answer))
+      go (got b) k = absurd (bad (ap (λ (t : Answer). t.number) k.answer))
       go (stopped t) k = record { answer = k.answer; long = k.long; marks = λ b same. absurd (apart same) }
 
   -- They are read, and the new contract decides.
@@ -213,4 +213,4 @@ module _ (o : Order) (lent : Lent) {before after : List Bool} {x : Refusal}
           → Marking (next t (λ b. next u (λ new. got b))) (λ b. b) before after (refusal_of u)
       go (got b) told k (got c) = record { answer = refl; long = k.long; marks = k.marks }
       go (got b) told k (stopped y) = record { answer = refl; long = k.long; marks = λ b same. absurd (apart same) }
-      go (stopped t) told k u = absurd (told.some (sym (ap (λ (r : Refusal). r.number) k.answer) ∙ quiet))
+      go (stopped t) told k u = absurd (told.some (sym (ap (λ (r : Answer). r.number) k.answer) ∙ quiet))

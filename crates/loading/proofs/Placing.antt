@@ -9,7 +9,7 @@ use lib.Dec.{eqb}
 use lib.ListN.{replicate, get_or-replicate}
 use Rattle.rows.specs.Row.{pick}
 use Rattle.records.specs.Order.{Attempt, got}
-use Rattle.records.specs.declared.Refusal.{Refusal}
+use Rattle.records.specs.Answer.{Answer}
 use Rattle.lists.specs.declared.list.Entry.{Entry}
 use Rattle.loading.specs.Inner.Marks.{marked, Marking}
 use Rattle.loading.specs.Place.{free, erasable, lowest_free, within, first_erasable, or_else, counter_place, place}
@@ -106,12 +106,12 @@ placed_free_or_erasable blocked n c counter es h = go counter
     go false = or_named blocked n (either blocked n es (n - c) (suc c) (omega arith)) within_card
 
 -- Over fresh marks, reading and marking tells what is blocked, as far as the rule asks.
-pub place_marked : {attempt : Attempt (ℕ → Bool)} {marks : List Bool} {r : Refusal} → Stops attempt
+pub place_marked : {attempt : Attempt (ℕ → Bool)} {marks : List Bool} {r : Answer} → Stops attempt
     → Marking attempt (λ b. b) (replicate 9 false) marks r → r.number ≡ 0
     → (blocked : ℕ → Bool) × (attempt ≡ got blocked)
     × ((n c : ℕ) (counter : Bool) (es : List Entry) → n ≤ 8 → c ≤ n → place (marked marks) n c counter es ≡ place blocked n c counter es)
 place_marked {attempt} {marks} {r} told m z =
-    let all = no_refusal attempt told (sym (ap (λ (x : Refusal). x.number) m.answer) ∙ z) in
+    let all = no_refusal attempt told (sym (ap (λ (x : Answer). x.number) m.answer) ∙ z) in
     let blocked : ℕ → Bool = all.0 in
     let each : (p : ℕ) → p ≤ 8 → marked marks p ≡ blocked p =
     λ p few. (m.marks blocked all.1).each p few ∙ ap (λ (b : Bool). b || blocked p) (get_or-replicate 9 p false false (omega arith)) in

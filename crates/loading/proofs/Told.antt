@@ -11,7 +11,7 @@ use Rattle.rows.proofs.Refusing.{Refusing, within, among_within}
 use Rattle.records.specs.Event.{event_read}
 use Rattle.records.specs.Order.{Attempt, got, stopped, next, record_from, events}
 use Rattle.records.specs.Order as order
-use Rattle.records.specs.declared.Refusal.{Refusal}
+use Rattle.records.specs.Answer.{Answer}
 use Rattle.records.proofs.Coming.{ComesTo, fine, faulty}
 use Rattle.records.proofs.event.Laws.{event_comes}
 use Rattle.lists.specs.List.{list_read}
@@ -27,7 +27,7 @@ use Rattle.loading.specs.Inner.Marks.{refusal_of}
 use Rattle.loading.specs.Inner.Store.{rest_read}
 use Rattle.loading.specs.declared.Order.{Order}
 
-pub apart : {A X : Type 0} {a : A} {r : Refusal} → got a ≡ stopped r → X
+pub apart : {A X : Type 0} {a : A} {r : Answer} → got a ≡ stopped r → X
 apart h = let z : ◌≡◌ {A = ℕ} 0 1 = cc in absurd (omega arith)
 
 -- The refusals of the lengths, the limits and all that is read.
@@ -48,8 +48,8 @@ next_stops (got a) more first then = then a
 next_stops (stopped r) more first then = first
 
 -- A step that takes an answer for what it comes to.
-comes_stops : {A B C : Type 0} {good : A → B} {bad : Refusal → B} (attempt : B → Attempt C) → ((a : A) → Stops (attempt (good a)))
-    → ((r : Refusal) → Refusing r.number r.field readings → Stops (attempt (bad r)))
+comes_stops : {A B C : Type 0} {good : A → B} {bad : Answer → B} (attempt : B → Attempt C) → ((a : A) → Stops (attempt (good a)))
+    → ((r : Answer) → Refusing r.number r.field readings → Stops (attempt (bad r)))
     → {ns : List ℕ} {b : B} → ComesTo good bad ns b → within ns readings ≡ true
     → Stops (attempt b)
 comes_stops attempt takes refuses (fine a) all = takes a

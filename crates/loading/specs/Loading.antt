@@ -3,21 +3,20 @@ use Rattle.std.specs.Prelude.{ℕ, ◌+◌, ◌-◌, ◌*◌, ◌/◌, ◌%◌, 
 use Rattle.rows.specs.Row.{pick}
 use Rattle.records.specs.Answer.{Written, refusal}
 use Rattle.records.specs.Order.{Attempt, got, stopped, next, needs, events}
-use Rattle.records.specs.declared.Refusal.{Refusal}
+use Rattle.records.specs.Answer.{Answer}
 use Rattle.lists.specs.List.{list_read, list_written}
 use Rattle.lists.specs.Entries.{counted, listing, attempted}
 use Rattle.lists.specs.Special.{special_read}
 use Rattle.lists.specs.declared.list.Entry.{Entry}
 use Rattle.lists.specs.declared.special.SpecialEntry.{SpecialEntry}
-use Rattle.lists.specs.declared.special.SpecialRead.{SpecialRead}
+use Rattle.lists.specs.Special.{SpecialRead}
 use Rattle.contract.specs.Contract.{contract_read}
 use Rattle.contract.specs.declared.Contract.{Contract}
-use Rattle.contract.specs.declared.ContractRead.{ContractRead}
-use Rattle.contract.specs.declared.ContractRead.TheVariants.{Read, Refused}
+use Rattle.contract.specs.Contract.{ContractRead}
+use Rattle.std.specs.Prelude.{Ok, Err}
 use Rattle.loading.specs.Blocking.{moment, blocked}
 use Rattle.loading.specs.Place.{place, afterwards}
 use Rattle.loading.specs.declared.Order.{Order}
-use Rattle.loading.specs.declared.Loaded.{Loaded}
 use Rattle.loading.specs.declared.Lengths.{Lengths}
 
 -- What is lent and only read: special event list, journal, special event records, new contract record, a bit for each event code.
@@ -67,8 +66,8 @@ abbrev pub specials : SpecialRead → Attempt (List SpecialEntry)
 specials r = pick (eqb r.refusal.number 0) (got (take r.list.count r.list.entries)) (stopped r.refusal)
 
 abbrev pub contract_got : ContractRead → Attempt Contract
-contract_got (Read c) = got c
-contract_got (Refused r) = stopped r
+contract_got (Ok c) = got c
+contract_got (Err r) = stopped r
 
 -- The pointers that are blocked, all events read: the special event list, the journal, then all special event records.
 unfoldable pub blocking : Order → List ℕ → List ℕ → List ℕ → List ℕ → Attempt (ℕ → Bool)
@@ -134,7 +133,7 @@ pub record Outcome : Type 0 where
   pub list : List ℕ
   pub file : List ℕ
 
-abbrev pub loaded : Refusal → ℕ → List ℕ → List ℕ → Outcome
+abbrev pub loaded : Answer → ℕ → List ℕ → List ℕ → Outcome
 loaded r pointer list file = record { answer = record { refusal = r; pointer = pointer }; list = list; file = file }
 
 -- Both buffers change where the list afterwards was written, and neither where it was refused.

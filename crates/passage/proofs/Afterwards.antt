@@ -16,7 +16,7 @@ use Rattle.lists.specs.Entries.{counted, recoded, recoded_at, with_priority}
 use Rattle.lists.specs.Special.{special_read}
 use Rattle.lists.specs.declared.list.Entry.{Entry}
 use Rattle.lists.specs.declared.list.ContractList.{ContractList}
-use Rattle.lists.specs.declared.list.ListRead.{ListRead}
+use Rattle.lists.specs.List.{ListRead}
 use Rattle.lists.specs.declared.special.SpecialEntry.{SpecialEntry}
 use Rattle.lists.proofs.Entries.{at_position}
 use Rattle.lists.proofs.Judging.{take-map}

@@ -13,8 +13,8 @@ use Rattle.rows.proofs.Margins.{both}
 use Rattle.records.specs.Answer.{Written, refusal, accepted}
 use Rattle.records.specs.Event.{event_read}
 use Rattle.records.specs.Order.{record_from}
-use Rattle.records.specs.declared.Refusal.{Refusal}
-use Rattle.records.specs.declared.event.EventRead.TheVariants.{Read}
+use Rattle.records.specs.Answer.{Answer}
+use Rattle.std.specs.Prelude.{Ok}
 use Rattle.records.proofs.Coming.{ComesTo, fine, faulty, either, stops}
 use Rattle.lists.specs.List.{entry_at, got_list, list_read}
 use Rattle.lists.specs.Entries.{counted, with_priority}
@@ -37,7 +37,7 @@ use Rattle.passage.proofs.Writing.{Recorded, recorded}
 abbrev pub passed_as : (ℕ × Entry) × List ℕ × List ℕ → Outcome
 passed_as x = record { answer = chosen_of x.0; list = x.1; journal = x.2 }
 
-abbrev pub unpassed : List ℕ → List ℕ → Refusal → Outcome
+abbrev pub unpassed : List ℕ → List ℕ → Answer → Outcome
 unpassed list journal r = unchanged (unselected r) list journal
 
 -- A choice settled: the answer is the choice;
@@ -209,7 +209,7 @@ module _ (p : Passage) (list file journal : List ℕ) where
         ap length after ∙ rw (length-append, event.long, rest) (omega arith)
 
     -- the first of which reads as the event,
-    pub first_reads : event_read (record_from out.journal 0) ≡ Read (event_for p choice.pointer)
+    pub first_reads : event_read (record_from out.journal 0) ≡ Ok (event_for p choice.pointer)
     first_reads =
         ap (λ (l : List ℕ). event_read l) (ap (take 29) after ∙ take_at event.bytes (take (length journal - 29) journal) 29 event.long) ∙ event.reads
 

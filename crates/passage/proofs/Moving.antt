@@ -8,7 +8,7 @@ use lib.Seq.{take-length, take-suc, drop-cons, append_snoc, set_at, get_or-take,
 use Rattle.records.specs.Answer.{Written}
 use Rattle.records.specs.Event.{event_written}
 use Rattle.records.specs.Order.{record_from}
-use Rattle.records.specs.declared.Refusal.{Refusal}
+use Rattle.records.specs.Answer.{Answer}
 use Rattle.records.specs.declared.event.Event.{Event}
 use Rattle.passage.specs.Passage.{put_first}
 use Rattle.passage.specs.Inner.Moved.{moved_down}
@@ -39,7 +39,7 @@ moving_more old i k e low high =
     (set_at (take k old) (get_or old k 0) rest (get_or old (k - 29) 0) k (length-take-le k old (omega arith)))
 
 -- An event written over the first of records that moved down.
-pub first_put : (old moved part : List ℕ) (e : Event) (r : Refusal) → 29 ≤ length old → moved ≡ moved_down old
+pub first_put : (old moved part : List ℕ) (e : Event) (r : Answer) → 29 ≤ length old → moved ≡ moved_down old
     → record { answer = r; bytes = part } ≡ event_written (take 29 moved) e
     → part ++ drop 29 moved ≡ put_first (event_written (record_from old 0) e).bytes old
 first_put old moved part e r room same written =

@@ -10,7 +10,7 @@ use Rattle.rows.proofs.Margins.{both}
 use Rattle.records.specs.Answer.{Written, refusal}
 use Rattle.records.specs.Event.{event_written}
 use Rattle.records.specs.Order.{record_from}
-use Rattle.records.specs.declared.Refusal.{Refusal}
+use Rattle.records.specs.Answer.{Answer}
 use Rattle.records.specs.declared.event.Event.{Event}
 use Rattle.selection.specs.Selection.{unselected, selected, changing}
 use Rattle.selection.specs.declared.Selected.{Selected}
@@ -56,7 +56,7 @@ module _ (p : Passage) (list file journal : List ℕ) {a : Bool} (agrees : a ≡
       unfolding passing chosen
       not_chosen refused = rw (← agrees, right, ← within, inside, ← chosen, ne_eqb _ _ refused)
 
-      pub passed : s.refusal.number ≡ 0 → {code : ℕ} {r : Refusal} {after past : List ℕ} {e : Event} → code ≡ used s.priority
+      pub passed : s.refusal.number ≡ 0 → {code : ℕ} {r : Answer} {after past : List ℕ} {e : Event} → code ≡ used s.priority
           → record { answer = r; bytes = after } ≡ changing list p.n p.c s.position code
           → e ≡ event_for p s.pointer → past ≡ put_first (event_written (record_from journal 0) e).bytes journal
           → record { answer = s; list = after; journal = past } ≡ passing p list file journal

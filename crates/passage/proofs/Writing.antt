@@ -17,8 +17,8 @@ use Rattle.rows.proofs.Refusing.{bare_write_refused}
 use Rattle.rows.proofs.Sound.{Sound, verdict, sound_written}
 use Rattle.records.specs.Answer.{refusal_at, accepted, read_record}
 use Rattle.records.specs.Event.{numbers_of, event_read, event_written}
-use Rattle.records.specs.declared.Refusal.{Refusal}
-use Rattle.records.specs.declared.event.EventRead.TheVariants.{Read}
+use Rattle.records.specs.Answer.{Answer}
+use Rattle.std.specs.Prelude.{Ok}
 use Rattle.records.proofs.event.Laws.{event_read_write}
 use Rattle.passage.specs.Passage.{event_for}
 use Rattle.passage.specs.declared.Passage.{Passage}
@@ -27,7 +27,7 @@ use Rattle.passage.specs.declared.Passage.{Passage}
 pub record Recorded (p : Passage) (pointer : ℕ) : Type 0 where
   pub bytes : List ℕ
   pub long : length bytes ≡ 29
-  pub reads : event_read bytes ≡ Read (event_for p pointer)
+  pub reads : event_read bytes ≡ Ok (event_for p pointer)
   pub written : (onto : List ℕ) → length onto ≡ 29 → event_written onto (event_for p pointer) ≡ accepted bytes
 
 module _ (p : Passage) (pointer : ℕ) (day : p.day ≤ 16383) (minute : p.minute ≤ 1439) (code : p.code ≤ 255) (provider : p.provider ≤ 255) (few : pointer ≤ 19) where
@@ -59,14 +59,14 @@ module _ (p : Passage) (pointer : ℕ) (day : p.day ≤ 16383) (minute : p.minut
       let size : length bs ≡ 232 = bare_write_length event 232 (numbers_of e) refl is in
       let whole : spread 8 (cut 8 8 29 bs) ≡ bs = spread_cut 8 29 bs size in
       let again : read event bs ≡ done (bare 232 (numbers_of e)) end = rw size at (bare_read event bs (bare_write_read event 232 (numbers_of e) refl is)) in
-      let reads : event_read (cut 8 8 29 bs) ≡ Read e = rw (whole, again) in
+      let reads : event_read (cut 8 8 29 bs) ≡ Ok e = rw (whole, again) in
       record {
         bytes = cut 8 8 29 bs;
         long = length_cut 8 8 29 bs;
         reads = reads;
         written = λ onto long. event_read_write (cut 8 8 29 bs) onto e (λ i. cut_lt 8 8 29 bs i) long reads;
       }
-  comes (refused n at i) is none = absurd (bare_write_refused event 232 (numbers_of (event_for p pointer)) is (ap (λ (r : Refusal). r.number) none))
+  comes (refused n at i) is none = absurd (bare_write_refused event 232 (numbers_of (event_for p pointer)) is (ap (λ (r : Answer). r.number) none))
 
   pub recorded : Recorded p pointer
   unfolding event

@@ -4,6 +4,7 @@ use mathlib.Core.List.{List, []}
 use mathlib.Core.Bool.{Bool, true, false}
 use mathlib.Core.Path.{◌≡◌, refl, sym, ap, ◌∙◌}
 use native.Mathlib.Omega.{arith}
+use Rattle.std.specs.Prelude.{◌≢◌}
 use lib.Dec.{eqb}
 use lib.ListN.{length}
 use borrow.Author.Tests.{eq-eqb, ne_eqb, eqb-true, eqb-false}
@@ -15,9 +16,12 @@ use Rattle.rows.specs.Inner.Step.{Kept, Packed}
 use Rattle.rows.specs.Inner.Line.{start, Taken, Puts, tells}
 use Rattle.rows.specs.Inner.Standing.{Standing}
 use Rattle.rows.proofs.Running.{takes_read, puts_walk, puts_refused, puts_kept}
-use Rattle.records.specs.Answer.{refusal, refusal_at, denied, written, answered, valued, content, read_record, write_record, area_length, read_area, write_area}
-use Rattle.records.specs.Inner.Met.{met}
 use Rattle.records.specs.declared.Refusal.{Refusal}
+use Rattle.rows.specs.Why.{number_of}
+use Rattle.rows.proofs.Stepping.{numbered}
+use Rattle.records.specs.Answer.{as_answer, refusal, refusal_at, denied, written, answered, valued, content, read_record, write_record, area_length, read_area, write_area}
+use Rattle.records.specs.Inner.Met.{met}
+use Rattle.records.specs.Answer.{Answer}
 
 -- The words of a record are eight.
 pub eight_words : (bytes words : List ℕ) → words ≡ cut 32 64 8 (spread 8 bytes) → 8 ≡ length words
@@ -26,7 +30,22 @@ eight_words bytes words cuts = sym (ap length cuts ∙ length_cut 32 64 8 (sprea
 pub all_words : (bytes words : List ℕ) → words ≡ cut 32 64 8 (spread 8 bytes) → words ≡ cut 32 64 (length words) (spread 8 bytes)
 all_words bytes words cuts = rw (← eight_words bytes words cuts) cuts
 
-module _ {A : Type 0} (good : List ℕ → List ℕ → A) (bad : Refusal → A) (rows : List Row) (bytes words all : List ℕ) (d : Standing) where
+-- What a walk met, as code tells it: nothing, so that there was no refusal, or one.
+pub met_none : (d : Standing) → refusal 0 0 ≡ met d → d.why ≡ 0
+met_none d e = go (eqb d.why 0) refl (ap (λ (a : Answer). a.number) e)
+  where
+    go : (b : Bool) → eqb d.why 0 ≡ b → 0 ≡ (pick b (refusal 0 0) (refusal_at d.why d.at (d.field - 1))).number → d.why ≡ 0
+    go true h n = eqb-true _ _ h
+    go false h n = sym n
+
+pub met_one : (r : Refusal) (d : Standing) → as_answer r ≡ met d → d.why ≢ 0
+met_one r d e = go (eqb d.why 0) refl (ap (λ (a : Answer). a.number) e)
+  where
+    go : (b : Bool) → eqb d.why 0 ≡ b → number_of r.why ≡ (pick b (refusal 0 0) (refusal_at d.why d.at (d.field - 1))).number → d.why ≢ 0
+    go true h n = absurd (numbered r.why n)
+    go false h n = eqb-false _ _ h
+
+module _ {A : Type 0} (good : List ℕ → List ℕ → A) (bad : Answer → A) (rows : List Row) (bytes words all : List ℕ) (d : Standing) where
   module _ {room : ℕ} (n : ℕ) (few : length rows < 2 ^ 32) (long : 8 * length bytes ≡ room)
       (cuts : words ≡ cut 32 64 (length words) (spread 8 bytes))
       (taken : Taken words room rows [] start all d) where
@@ -64,13 +83,13 @@ module _ {A : Type 0} (good : List ℕ → List ℕ → A) (bad : Refusal → A)
     unfolding read_area
     area_refused why = rw whole (sym (says_refused 15 few refl cuts taken why))
 
-pub record_short : {A : Type 0} (good : List ℕ → List ℕ → A) (bad : Refusal → A) (rows : List Row) (bytes : List ℕ)
+pub record_short : {A : Type 0} (good : List ℕ → List ℕ → A) (bad : Answer → A) (rows : List Row) (bytes : List ℕ)
     → (length bytes ≡ 29 → ⊥)
     → bad (refusal 1 0) ≡ read_record good bad rows bytes
 unfolding read_record
 record_short good bad rows bytes short = rw (ne_eqb _ _ short)
 
-pub area_short : {A : Type 0} (good : List ℕ → List ℕ → A) (bad : Refusal → A) (rows : List Row) (bytes : List ℕ)
+pub area_short : {A : Type 0} (good : List ℕ → List ℕ → A) (bad : Answer → A) (rows : List Row) (bytes : List ℕ)
     → area_length (length bytes) ≡ false
     → bad (refusal 1 0) ≡ read_area good bad rows bytes
 unfolding read_area

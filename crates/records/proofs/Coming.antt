@@ -13,18 +13,18 @@ use Rattle.rows.specs.Walk.{Outcome, done, refused, read, read_bare, write}
 use Rattle.rows.specs.Refusing.{walk_numbers, bare_numbers, write_numbers, may_name}
 use Rattle.rows.proofs.Refusing.{Refusing, Refuses, refuses_behind, within, among_within, read_number, bare_number, write_number}
 use Rattle.records.specs.Answer.{Written, refusal, refusal_at, accepted, denied, written, answered, valued, content, read_record, write_record, area_length, read_area, write_area}
-use Rattle.records.specs.declared.Refusal.{Refusal}
+use Rattle.records.specs.Answer.{Answer}
 
 -- The answer of a value, or that of a refusal with one of some numbers, which names a field only if it is a field's own.
-pub data ComesTo {A B : Type 0} (good : A → B) (bad : Refusal → B) (ns : List ℕ) : B → Type 0 where
+pub data ComesTo {A B : Type 0} (good : A → B) (bad : Answer → B) (ns : List ℕ) : B → Type 0 where
   fine : (a : A) → ComesTo good bad ns (good a)
-  faulty : (r : Refusal) → Refusing r.number r.field ns → ComesTo good bad ns (bad r)
+  faulty : (r : Answer) → Refusing r.number r.field ns → ComesTo good bad ns (bad r)
 
 -- A writing that is refused: the bytes are as they were.
-abbrev pub unwritten : List ℕ → Refusal → Written
+abbrev pub unwritten : List ℕ → Answer → Written
 unwritten before r = denied r before
 
-module _ {A B : Type 0} {good : A → B} {bad : Refusal → B} where
+module _ {A B : Type 0} {good : A → B} {bad : Answer → B} where
   pub comes_within : {ms ns : List ℕ} {b : B} → ComesTo good bad ms b → within ms ns ≡ true → ComesTo good bad ns b
   comes_within (fine a) all = fine a
   comes_within {ms} {ns} (faulty r why) all = faulty r (record { some = why.some; listed = among_within r.number ms ns all why.listed; named = why.named })
@@ -33,7 +33,7 @@ module _ {A B : Type 0} {good : A → B} {bad : Refusal → B} where
   either true p q = p
   either false p q = q
 
-  pub stops : {ns : List ℕ} (r : Refusal) → eqb r.number 0 ≡ false → among r.number ns ≡ true → may_name r.number r.field ≡ true
+  pub stops : {ns : List ℕ} (r : Answer) → eqb r.number 0 ≡ false → among r.number ns ≡ true → may_name r.number r.field ≡ true
       → ComesTo good bad ns (bad r)
   stops r some listed named = faulty r (record { some = eqb-false _ _ some; listed = listed; named = named })
 
@@ -55,7 +55,7 @@ pub bare_bytes_number : (rows : List Row) (bytes : List ℕ) {room : ℕ} → 8 
 bare_bytes_number rows bytes long = rw (length-spread 8 bytes, long) at (bare_number rows (spread 8 bytes))
 
 -- Reading a record or an area: 1, or the table's own.
-module _ {A B : Type 0} {good : A → B} {bad : Refusal → B} (value_of : List ℕ → List ℕ → A) (rows : List Row) (bytes : List ℕ) where
+module _ {A B : Type 0} {good : A → B} {bad : Answer → B} (value_of : List ℕ → List ℕ → A) (rows : List Row) (bytes : List ℕ) where
   room_comes : (n : ℕ) (t : Bool) (room : ℕ) → (t ≡ true → 8 * length bytes ≡ room)
       → ComesTo good bad (1 ∷ walk_numbers room rows) (pick t (answered (valued n (λ vals margin. good (value_of vals margin))) bad (read rows (spread 8 bytes))) (bad (refusal 1 0)))
   room_comes n true room long =

@@ -17,7 +17,7 @@ use Rattle.rows.specs.Walk.{Outcome, done, refused, Content, read, read_bare, wr
 use Rattle.rows.proofs.RoundTrip.{reading, read_write, writing, write_read, bare_read_write, bare_write_length, bare_write_read}
 use Rattle.rows.proofs.Refusing.{write_refused, bare_write_refused}
 use Rattle.records.specs.Answer.{Written, refusal, refusal_at, accepted, denied, written, answered, valued, content, read_record, write_record, from, named}
-use Rattle.records.specs.declared.Refusal.{Refusal}
+use Rattle.records.specs.Answer.{Answer}
 
 -- The values of a type are named views of a table's slots, as far as those were read from so much room, and of the words of a margin.
 pub record View {A : Type 0} (rows : List Row) (room words : ℕ) (numbers_of words_of : A → List ℕ) (value_of : List ℕ → List ℕ → A) : Type 0 where
@@ -123,9 +123,9 @@ module _ (rows : List Row) (room words : ℕ) (covers : room ≤ 64 * words) whe
         a.long,
       )
 
-module _ {A B : Type 0} (good : A → B) (bad : Refusal → B)
+module _ {A B : Type 0} (good : A → B) (bad : Answer → B)
     (same : (a b : A) → good a ≡ good b → a ≡ b)
-    (apart : (r : Refusal) (a : A) → bad r ≡ good a → ⊥)
+    (apart : (r : Answer) (a : A) → bad r ≡ good a → ⊥)
     {rows : List Row} {numbers_of words_of : A → List ℕ} {value_of : List ℕ → List ℕ → A} (view : View rows 232 4 numbers_of words_of value_of) where
   abbrev good_of : List ℕ → List ℕ → B
   good_of vals margin = good (value_of vals margin)

@@ -1,11 +1,9 @@
 -- Environment as a value: named numbers, in the order of the table's slots, and its margin.
-use Rattle.std.specs.Prelude.{ℕ, List, [], ◌∷◌, ◌++◌, get_or}
+use Rattle.std.specs.Prelude.{ℕ, List, [], ◌∷◌, ◌++◌, get_or, Result, Ok, Err}
 use Rattle.rows.specs.Margin.{words_of, margin_of}
 use Rattle.rows.specs.Table.Environment.{environment}
-use Rattle.records.specs.Answer.{Written, Told, told_value, told_refusal, read_record, write_record}
+use Rattle.records.specs.Answer.{Answer, Written, Told, told_value, told_refusal, read_record, write_record}
 use Rattle.records.specs.declared.environment.Environment.{Environment}
-use Rattle.records.specs.declared.environment.EnvironmentRead.{EnvironmentRead}
-use Rattle.records.specs.declared.environment.EnvironmentRead.TheVariants.{Read, Refused}
 
 abbrev pub numbers_of : Environment → List ℕ
 numbers_of e =
@@ -37,13 +35,17 @@ environment_of vals margin =
       margin = margin_of margin;
     }
 
+-- The answer to a reading.
+abbrev pub EnvironmentRead : Type 0
+EnvironmentRead = Result Environment Answer
+
 -- The cases of the answer, each by its number, its place, its field and its values.
 abbrev pub environment_told : EnvironmentRead → Told
-environment_told (Read e) = told_value (numbers_of e ++ words_of e.margin)
-environment_told (Refused r) = told_refusal 14 r
+environment_told (Ok e) = told_value (numbers_of e ++ words_of e.margin)
+environment_told (Err r) = told_refusal 14 r
 
 abbrev pub environment_read : List ℕ → EnvironmentRead
-environment_read bytes = read_record (λ vals margin. Read (environment_of vals margin)) Refused environment bytes
+environment_read bytes = read_record (λ vals margin. Ok (environment_of vals margin)) Err environment bytes
 
 abbrev pub environment_written : List ℕ → Environment → Written
 environment_written before e = write_record environment (numbers_of e) (words_of e.margin) before

@@ -1,12 +1,10 @@
 -- Event as a value: named numbers, in the order of the table's slots, and its margin. Slot 20 is element [17], which never fits and
 -- has no name.
-use Rattle.std.specs.Prelude.{ℕ, List, [], ◌∷◌, ◌++◌, get_or}
+use Rattle.std.specs.Prelude.{ℕ, List, [], ◌∷◌, ◌++◌, get_or, Result, Ok, Err}
 use Rattle.rows.specs.Margin.{words_of, margin_of}
 use Rattle.rows.specs.Table.Event.{event}
-use Rattle.records.specs.Answer.{Written, Told, told_value, told_refusal, read_record, write_record}
+use Rattle.records.specs.Answer.{Answer, Written, Told, told_value, told_refusal, read_record, write_record}
 use Rattle.records.specs.declared.event.Event.{Event}
-use Rattle.records.specs.declared.event.EventRead.{EventRead}
-use Rattle.records.specs.declared.event.EventRead.TheVariants.{Read, Refused}
 
 abbrev pub numbers_of : Event → List ℕ
 numbers_of e =
@@ -89,13 +87,17 @@ event_of vals margin =
       margin = margin_of margin;
     }
 
+-- The answer to a reading.
+abbrev pub EventRead : Type 0
+EventRead = Result Event Answer
+
 -- The cases of the answer, each by its number, its place, its field and its values.
 abbrev pub event_told : EventRead → Told
-event_told (Read e) = told_value (numbers_of e ++ words_of e.margin)
-event_told (Refused r) = told_refusal 40 r
+event_told (Ok e) = told_value (numbers_of e ++ words_of e.margin)
+event_told (Err r) = told_refusal 40 r
 
 abbrev pub event_read : List ℕ → EventRead
-event_read bytes = read_record (λ vals margin. Read (event_of vals margin)) Refused event bytes
+event_read bytes = read_record (λ vals margin. Ok (event_of vals margin)) Err event bytes
 
 abbrev pub event_written : List ℕ → Event → Written
 event_written before e = write_record event (numbers_of e) (words_of e.margin) before

@@ -4,15 +4,15 @@ use Rattle.std.specs.Prelude.{ℕ, zero, suc, ◌-◌, ◌*◌, ◌/◌, Bool, �
 use Rattle.rows.specs.Row.{pick}
 use Rattle.records.specs.Answer.{refusal}
 use Rattle.records.specs.Event.{event_read}
-use Rattle.records.specs.declared.Refusal.{Refusal}
+use Rattle.records.specs.Answer.{Answer}
 use Rattle.records.specs.declared.event.Event.{Event}
-use Rattle.records.specs.declared.event.EventRead.{EventRead}
-use Rattle.records.specs.declared.event.EventRead.TheVariants.{Read, Refused}
+use Rattle.records.specs.Event.{EventRead}
+use Rattle.std.specs.Prelude.{Ok, Err}
 
 -- What some steps come to: a value, or the refusal of the first that failed.
 pub data Attempt (A : Type 0) : Type 0 where
   got : A → Attempt A
-  stopped : Refusal → Attempt A
+  stopped : Answer → Attempt A
 
 abbrev pub next : {A B : Type 0} → Attempt A → (A → Attempt B) → Attempt B
 next (got a) more = more a
@@ -32,8 +32,8 @@ record_at file pointer = pick (leb 1 pointer && leb pointer (length file / 29)) 
 
 -- An event that was read, or the refusal.
 abbrev pub attempted : EventRead → Attempt Event
-attempted (Read e) = got e
-attempted (Refused r) = stopped r
+attempted (Ok e) = got e
+attempted (Err r) = stopped r
 
 -- n events of a lent file in order, the first starting at byte 29 × i.
 abbrev pub events : ℕ → List ℕ → ℕ → Attempt (List Event)

@@ -1,12 +1,15 @@
 // Environment.
 ghost use Rattle.std.specs.Prelude.{◌≡◌, [], length};
+ghost use Rattle.rows.specs.Inner.Standing.{stand};
 ghost use Rattle.rows.specs.Inner.Line.{start, Taken, Given};
 ghost use Rattle.rows.specs.Margin.{words_of};
 ghost use Rattle.rows.specs.Table.Environment.{environment};
+ghost use Rattle.records.specs.Answer.{answer_of, heard};
 ghost use Rattle.records.specs.Environment.{environment_told, environment_read, environment_written, numbers_of, environment_of};
 
 use crate::{BITS, BYTES, Refusal};
 use rows::margin::Margin;
+use rows::take::Part;
 use rows::{Cursor, When, margin, put, take};
 
 #[derive(Clone, Copy)]
@@ -63,41 +66,26 @@ impl Environment {
     }
 }
 
-#[derive(Clone, Copy)]
-pub enum EnvironmentRead {
-    Read(Environment),
-    Refused(Refusal),
-}
-
-// The numbers taken, and the cursor behind the last field.
-#[derive(Clone, Copy)]
-struct Fields {
-    value: Environment,
-    last: Cursor,
-}
-
 // The Environment in a lent record.
-pub fn read(bytes: &[u8]) -> EnvironmentRead
-    ensures { environment_told result ≡ environment_told (environment_read bytes.now) }
+pub fn read(bytes: &[u8]) -> Result<Environment, Refusal>
+    ensures { environment_told (heard result) ≡ environment_told (environment_read bytes.now) }
 {
     if bytes.len() != BYTES {
-        return EnvironmentRead::Refused(Refusal::WRONG_LENGTH);
+        return Err(Refusal::WRONG_LENGTH);
     }
     let mut words = [0u64; 8];
     bits::words(&bytes[..], &mut words);
     let fields = take_fields(&words);
     let last = fields.last;
-    if last.why != 0 {
-        return EnvironmentRead::Refused(Refusal::met(last));
-    }
+    Refusal::met(last)?;
     let mut value = fields.value;
     value.margin = margin::take(&words, last.at);
-    EnvironmentRead::Read(value)
+    Ok(value)
 }
 
-fn take_fields(words: &[u64]) -> Fields
+fn take_fields(words: &[u64]) -> Part<Environment>
     requires { length words.now ≡ 8 }
-    ensures { Taken words.now 232 environment [] start (numbers_of result.value) result.last }
+    ensures { Taken words.now 232 environment [] start (numbers_of result.value) (stand result.last) }
 {
     let version = take::number(words, BITS, Cursor::START, When::Always, 6);
     let bitmap = take::number(words, BITS, version, When::Always, 7);
@@ -109,7 +97,7 @@ fn take_fields(words: &[u64]) -> Fields
     let select_list = take::number(words, BITS, authenticator, When::Bit(bitmap.number, 5), 32);
     let data = take::env_data(words, BITS, select_list, When::Bit(bitmap.number, 6));
     let card_status = take::number(words, BITS, data, When::Bit(data.number, 0), 1);
-    Fields {
+    Part {
         value: Environment {
             version: version.number,
             bitmap: bitmap.number,
@@ -128,17 +116,15 @@ fn take_fields(words: &[u64]) -> Fields
 }
 
 // Writes an Environment to a lent record, all of it; refused, the record is as it was.
-pub fn write(bytes: &mut [u8], e: Environment) -> Refusal
-    ensures { record { answer = result; bytes = bytes.new } ≡ environment_written bytes.old e }
+pub fn write(bytes: &mut [u8], e: Environment) -> Result<(), Refusal>
+    ensures { record { answer = answer_of result; bytes = bytes.new } ≡ environment_written bytes.old e }
 {
     if bytes.len() != BYTES {
-        return Refusal::WRONG_LENGTH;
+        return Err(Refusal::WRONG_LENGTH);
     }
     let mut draft = [0u64; 9];
     let last = put_fields(&mut draft, e);
-    if last.why != 0 {
-        return Refusal::met(last);
-    }
+    Refusal::met(last)?;
     let end = margin::put(&mut draft, BITS, last, e.margin);
     put::end(&draft, end, bytes);
     Refusal::met(end)
@@ -146,7 +132,7 @@ pub fn write(bytes: &mut [u8], e: Environment) -> Refusal
 
 fn put_fields(draft: &mut [u64], e: Environment) -> Cursor
     requires { length draft.old ≡ 9 }
-    ensures { Given 232 (numbers_of e) environment [] draft.old start (numbers_of e) draft.new result }
+    ensures { Given 232 (numbers_of e) environment [] draft.old start (numbers_of e) draft.new (stand result) }
 {
     let c = put::number(draft, BITS, Cursor::START, When::Always, 6, e.version);
     let c = put::number(draft, BITS, c, When::Always, 7, e.bitmap);

@@ -1,13 +1,16 @@
 // Event, of the journal and of the special events.
 ghost use Rattle.std.specs.Prelude.{◌≡◌, [], length, take, drop};
 ghost use Rattle.rows.specs.Inner.Step.{Ready, Drafted};
+ghost use Rattle.rows.specs.Inner.Standing.{stand};
 ghost use Rattle.rows.specs.Inner.Line.{start, Taken, Given};
 ghost use Rattle.rows.specs.Margin.{words_of};
 ghost use Rattle.rows.specs.Table.Event.{event};
+ghost use Rattle.records.specs.Answer.{answer_of, heard};
 ghost use Rattle.records.specs.Event.{event_told, event_read, event_written, numbers_of, event_of};
 
 use crate::{BITS, BYTES, LAST_MINUTE, Refusal};
 use rows::margin::Margin;
+use rows::take::Part;
 use rows::{Cursor, When, margin, put, take};
 
 // Element [17] can never fit: it has no number here.
@@ -184,41 +187,26 @@ impl Event {
     }
 }
 
-#[derive(Clone, Copy)]
-pub enum EventRead {
-    Read(Event),
-    Refused(Refusal),
-}
-
-// The numbers taken so far, and the cursor behind the last field.
-#[derive(Clone, Copy)]
-struct Fields {
-    value: Event,
-    last: Cursor,
-}
-
 // The Event in a lent record.
-pub fn read(bytes: &[u8]) -> EventRead
-    ensures { event_told result ≡ event_told (event_read bytes.now) }
+pub fn read(bytes: &[u8]) -> Result<Event, Refusal>
+    ensures { event_told (heard result) ≡ event_told (event_read bytes.now) }
 {
     if bytes.len() != BYTES {
-        return EventRead::Refused(Refusal::WRONG_LENGTH);
+        return Err(Refusal::WRONG_LENGTH);
     }
     let mut words = [0u64; 8];
     bits::words(&bytes[..], &mut words);
     let fields = take_fields(&words);
     let last = fields.last;
-    if last.why != 0 {
-        return EventRead::Refused(Refusal::met(last));
-    }
+    Refusal::met(last)?;
     let mut value = fields.value;
     value.margin = margin::take(&words, last.at);
-    EventRead::Read(value)
+    Ok(value)
 }
 
-fn take_fields(words: &[u64]) -> Fields
+fn take_fields(words: &[u64]) -> Part<Event>
     requires { length words.now ≡ 8 }
-    ensures { Taken words.now 232 event [] start (numbers_of result.value) result.last }
+    ensures { Taken words.now 232 event [] start (numbers_of result.value) (stand result.last) }
 {
     let occasion = take_occasion(words);
     let journey = take_journey(words, occasion);
@@ -226,9 +214,9 @@ fn take_fields(words: &[u64]) -> Fields
 }
 
 // Date, minute and bitmap, and elements [0] to [8].
-fn take_occasion(words: &[u64]) -> Fields
+fn take_occasion(words: &[u64]) -> Part<Event>
     requires { length words.now ≡ 8 }
-    ensures { Taken words.now 232 (take 12 event) [] start (take 12 (numbers_of result.value)) result.last }
+    ensures { Taken words.now 232 (take 12 event) [] start (take 12 (numbers_of result.value)) (stand result.last) }
 {
     let date = take::number(words, BITS, Cursor::START, When::Always, 14);
     let minute = take::at_most(words, BITS, date, When::Always, 11, LAST_MINUTE);
@@ -255,16 +243,16 @@ fn take_occasion(words: &[u64]) -> Fields
     e.serial = serial.number;
     e.destination = destination.number;
     e.location = location.number;
-    Fields {
+    Part {
         value: e,
         last: location,
     }
 }
 
 // Elements [9] to [20].
-fn take_journey(words: &[u64], fields: Fields) -> Fields
-    requires { Ready words.now 232 fields.last }
-    ensures { Taken words.now 232 (take 12 (drop 12 event)) (take 12 (numbers_of fields.value)) fields.last (take 24 (numbers_of result.value)) result.last }
+fn take_journey(words: &[u64], fields: Part<Event>) -> Part<Event>
+    requires { Ready words.now 232 (stand fields.last) }
+    ensures { Taken words.now 232 (take 12 (drop 12 event)) (take 12 (numbers_of fields.value)) (stand fields.last) (take 24 (numbers_of result.value)) (stand result.last) }
 {
     let last = fields.last;
     let mut e = fields.value;
@@ -291,16 +279,16 @@ fn take_journey(words: &[u64], fields: Fields) -> Fields
     e.location_reference = location_reference.number;
     e.interchanges = interchanges.number;
     e.period_journeys = period_journeys.number;
-    Fields {
+    Part {
         value: e,
         last: period_journeys,
     }
 }
 
 // Elements [21] to [27], the last a bitmap with its own.
-fn take_account(words: &[u64], fields: Fields) -> Fields
-    requires { Ready words.now 232 fields.last }
-    ensures { Taken words.now 232 (drop 24 event) (take 24 (numbers_of fields.value)) fields.last (numbers_of result.value) result.last }
+fn take_account(words: &[u64], fields: Part<Event>) -> Part<Event>
+    requires { Ready words.now 232 (stand fields.last) }
+    ensures { Taken words.now 232 (drop 24 event) (take 24 (numbers_of fields.value)) (stand fields.last) (numbers_of result.value) (stand result.last) }
 {
     let last = fields.last;
     let mut e = fields.value;
@@ -343,24 +331,22 @@ fn take_account(words: &[u64], fields: Fields) -> Fields
     e.simulation = simulation.number;
     e.trip = trip.number;
     e.direction = direction.number;
-    Fields {
+    Part {
         value: e,
         last: direction,
     }
 }
 
 // Writes an Event to a lent record, all of it; refused, the record is as it was.
-pub fn write(bytes: &mut [u8], e: Event) -> Refusal
-    ensures { record { answer = result; bytes = bytes.new } ≡ event_written bytes.old e }
+pub fn write(bytes: &mut [u8], e: Event) -> Result<(), Refusal>
+    ensures { record { answer = answer_of result; bytes = bytes.new } ≡ event_written bytes.old e }
 {
     if bytes.len() != BYTES {
-        return Refusal::WRONG_LENGTH;
+        return Err(Refusal::WRONG_LENGTH);
     }
     let mut draft = [0u64; 9];
     let last = put_fields(&mut draft, e);
-    if last.why != 0 {
-        return Refusal::met(last);
-    }
+    Refusal::met(last)?;
     let end = margin::put(&mut draft, BITS, last, e.margin);
     put::end(&draft, end, bytes);
     Refusal::met(end)
@@ -368,7 +354,7 @@ pub fn write(bytes: &mut [u8], e: Event) -> Refusal
 
 fn put_fields(draft: &mut [u64], e: Event) -> Cursor
     requires { length draft.old ≡ 9 }
-    ensures { Given 232 (numbers_of e) event [] draft.old start (numbers_of e) draft.new result }
+    ensures { Given 232 (numbers_of e) event [] draft.old start (numbers_of e) draft.new (stand result) }
 {
     let occasion = put_occasion(draft, e);
     let journey = put_journey(draft, occasion, e);
@@ -377,7 +363,7 @@ fn put_fields(draft: &mut [u64], e: Event) -> Cursor
 
 fn put_occasion(draft: &mut [u64], e: Event) -> Cursor
     requires { length draft.old ≡ 9 }
-    ensures { Given 232 (numbers_of e) (take 12 event) [] draft.old start (take 12 (numbers_of e)) draft.new result }
+    ensures { Given 232 (numbers_of e) (take 12 event) [] draft.old start (take 12 (numbers_of e)) draft.new (stand result) }
 {
     let mut d = put::number(draft, BITS, Cursor::START, When::Always, 14, e.date);
     d = put::at_most(draft, BITS, d, When::Always, 11, LAST_MINUTE, e.minute);
@@ -394,8 +380,8 @@ fn put_occasion(draft: &mut [u64], e: Event) -> Cursor
 }
 
 fn put_journey(draft: &mut [u64], c: Cursor, e: Event) -> Cursor
-    requires { Drafted draft.old 232 c }
-    ensures { Given 232 (numbers_of e) (take 12 (drop 12 event)) (take 12 (numbers_of e)) draft.old c (take 24 (numbers_of e)) draft.new result }
+    requires { Drafted draft.old 232 (stand c) }
+    ensures { Given 232 (numbers_of e) (take 12 (drop 12 event)) (take 12 (numbers_of e)) draft.old (stand c) (take 24 (numbers_of e)) draft.new (stand result) }
 {
     let mut d = put::number(draft, BITS, c, When::Bit(e.bitmap, 9), 8, e.gate);
     d = put::number(draft, BITS, d, When::Bit(e.bitmap, 10), 16, e.device);
@@ -426,8 +412,8 @@ fn put_journey(draft: &mut [u64], c: Cursor, e: Event) -> Cursor
 }
 
 fn put_account(draft: &mut [u64], c: Cursor, e: Event) -> Cursor
-    requires { Drafted draft.old 232 c }
-    ensures { Given 232 (numbers_of e) (drop 24 event) (take 24 (numbers_of e)) draft.old c (numbers_of e) draft.new result }
+    requires { Drafted draft.old 232 (stand c) }
+    ensures { Given 232 (numbers_of e) (drop 24 event) (take 24 (numbers_of e)) draft.old (stand c) (numbers_of e) draft.new (stand result) }
 {
     let mut d = put::number(
         draft,

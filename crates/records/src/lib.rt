@@ -2,72 +2,68 @@
 #![tactic(auto)]
 
 ghost use Rattle.std.specs.Prelude.{◌≡◌};
+ghost use Rattle.rows.specs.Inner.Standing.{stand};
+ghost use Rattle.records.specs.Answer.{answer_of};
 ghost use Rattle.records.specs.Order.{record_at};
 ghost use Rattle.records.specs.Inner.Met.{met};
 
 use rows::Cursor;
+pub use rows::Why;
 
 pub mod environment;
 pub mod event;
 
-// Why an operation refused, and where: zeros where it accepted.
-#[derive(Clone, Copy)]
+// Why an operation refuses, and where.
+#[derive(Clone, Copy, Debug, PartialEq, Eq)]
 pub struct Refusal {
-    pub number: u32,
+    pub why: Why,
     pub place: u32,
     pub field: u32, // the rank of the field at fault, from 0 in card order, absent ones counted; 0 also where none is named
 }
 
 impl Refusal {
     // The ones that have no place in a record and name no field.
-    pub const NONE: Refusal = Refusal {
-        number: 0,
-        place: 0,
-        field: 0,
-    };
-
     pub const WRONG_LENGTH: Refusal = Refusal {
-        number: 1,
+        why: Why::WrongLength,
         place: 0,
         field: 0,
     };
 
     pub const UNKNOWN_TYPE: Refusal = Refusal {
-        number: 3,
+        why: Why::Unknown,
         place: 0,
         field: 0,
     };
 
     pub const NONE_ELIGIBLE: Refusal = Refusal {
-        number: 8,
+        why: Why::NoneEligible,
         place: 0,
         field: 0,
     };
 
     pub const NO_POSITION: Refusal = Refusal {
-        number: 9,
+        why: Why::NoPosition,
         place: 0,
         field: 0,
     };
 
     pub const OUTSIDE_LIMITS: Refusal = Refusal {
-        number: 11,
+        why: Why::OutsideLimits,
         place: 0,
         field: 0,
     };
 
-    // What a walk met: none where it came to its end. At fault is the last field that it counted.
-    pub fn met(c: Cursor) -> Refusal
-        ensures { result ≡ met c }
+    // What a walk met: nothing where it came to its end. At fault is the last field that it counted.
+    pub fn met(c: Cursor) -> Result<(), Refusal>
+        ensures { answer_of result ≡ met (stand c) }
     {
-        if c.why == 0 {
-            return Refusal::NONE;
-        }
-        let field = if c.field == 0 { 0 } else { c.field - 1 };
-        Refusal {
-            number: c.why,
-            place: c.at,
-            field,
+        match c.why {
+            None => Ok(()),
+            Some(why) => Err(Refusal {
+                why,
+                place: c.at,
+                field: c.field.saturating_sub(1),
+            }),
         }
     }
 }

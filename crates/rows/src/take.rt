@@ -5,6 +5,13 @@ ghost use Rattle.rows.specs.Inner.Step.{Ready, Took, Ended, Spells, letters_at};
 
 use crate::{Cursor, Rule, When, Why, step};
 
+// What some fields of a record say, and the cursor behind the last of them.
+#[derive(Clone, Copy)]
+pub struct Part<T> {
+    pub value: T,
+    pub last: Cursor,
+}
+
 // A list's tariff, with the cursor behind it.
 #[derive(Clone, Copy)]
 pub struct ListTariff {

@@ -12,15 +12,15 @@ use Rattle.rows.proofs.Refusing.{among_behind}
 use Rattle.records.specs.Answer.{Written, Told, refusal, refusal_at, accepted}
 use Rattle.records.specs.Environment.{environment_told}
 use Rattle.records.specs.Event.{event_told}
-use Rattle.records.specs.declared.Refusal.{Refusal}
-use Rattle.holder.specs.declared.HolderRead.{HolderRead}
-use Rattle.lists.specs.declared.list.ListRead.{ListRead}
-use Rattle.lists.specs.declared.special.SpecialRead.{SpecialRead}
+use Rattle.records.specs.Answer.{Answer}
+use Rattle.holder.specs.Holder.{HolderRead}
+use Rattle.lists.specs.List.{ListRead}
+use Rattle.lists.specs.Special.{SpecialRead}
 use Rattle.contract.specs.Contract.{contract_told}
 use Rattle.bip.specs.Value.{bip_told}
 use Rattle.selection.specs.declared.Selected.{Selected}
 use Rattle.loading.specs.Loading.{Outcome}
-use Rattle.loading.specs.declared.Loaded.{Loaded}
+use Rattle.loading.specs.Loading.{Loaded}
 use Rattle.passage.specs.Passage as passage
 use Rattle.text.specs.Hex.{choose, spelt}
 use Rattle.records.proofs.Telling.{environment_one, event_one}
@@ -50,7 +50,7 @@ pub record Operation : Type 1 where
   pub allows : (g : given) → end g → Type 0
   pub told : Type 0
   pub tells : (g : given) → end g → told
-  pub refusal : told → Refusal
+  pub refusal : told → Answer
   pub numbers : List ℕ
   -- the contents of all that is lent to be written, at the call and as they are told
   pub before : given → List (List ℕ)
@@ -77,7 +77,7 @@ abbrev by :
     {L : Type 0} {D R E : L → Type 0} {A : Type 0}
     → ((κs : L) → D κs → R κs → E κs → Type 0)
     → ((κs : L) → R κs → E κs → A)
-    → (A → Refusal)
+    → (A → Answer)
     → ((κs : L) → D κs → List (List ℕ))
     → (A → List (List ℕ))
     → List ℕ
@@ -96,7 +96,7 @@ by {L} {D} {R} {E} {A} contract tells refused before after numbers =
     }
 
 -- One that only reads.
-abbrev reading : {L : Type 0} {D E : L → Type 0} {A : Type 0} → ((κs : L) → D κs → A → E κs → Type 0) → (A → Refusal) → List ℕ → Operation
+abbrev reading : {L : Type 0} {D E : L → Type 0} {A : Type 0} → ((κs : L) → D κs → A → E κs → Type 0) → (A → Answer) → List ℕ → Operation
 reading contract refused numbers = by contract (λ κs r s. r) refused (λ κs d. []) (λ a. []) numbers
 
 -- One that refuses nothing.
@@ -106,7 +106,7 @@ giving contract tells = by contract (λ κs r s. tells κs r) (λ a. refusal 0 0
 -- One that writes to lent bytes.
 abbrev writing :
     {L : Type 0} {D E : L → Type 0}
-    → ((κs : L) → D κs → Refusal → E κs → Type 0)
+    → ((κs : L) → D κs → Answer → E κs → Type 0)
     → ((κs : L) → D κs → List ℕ)
     → ((κs : L) → E κs → List ℕ)
     → List ℕ
@@ -115,7 +115,7 @@ writing contract before after numbers =
     by {A = Written} contract (λ κs r s. record { answer = r; bytes = after κs s }) (λ w. w.answer) (λ κs d. before κs d ∷ []) (λ w. w.bytes ∷ []) numbers
 
 -- The refusal that an enum's answer tells.
-abbrev refused_by : Told → Refusal
+abbrev refused_by : Told → Answer
 refused_by t = refusal_at t.number t.place t.field
 
 abbrev loading : Loaded → List ℕ → List ℕ → Outcome
@@ -257,7 +257,7 @@ all_one =
 
 -- What is told has one of some numbers or 0, a field's name only if the refusal is a field's own, and leaves what was there where
 -- the number is not 0.
-abbrev Sound : {A : Type 0} → (A → Refusal) → (A → List (List ℕ)) → List ℕ → List (List ℕ) → A → Type 0
+abbrev Sound : {A : Type 0} → (A → Answer) → (A → List (List ℕ)) → List ℕ → List (List ℕ) → A → Type 0
 Sound refused after ns before x =
     (among (refused x).number (0 ∷ ns) ≡ true)
     × (may_name (refused x).number (refused x).field ≡ true)
@@ -265,27 +265,27 @@ Sound refused after ns before x =
 
 -- So it does, if it comes to a value without a refusal, or to a refusal that is its own and leaves what was there.
 sound :
-    {A B : Type 0} {good : A → B} {bad : Refusal → B} (refused : B → Refusal) (after : B → List (List ℕ)) (before : List (List ℕ))
+    {A B : Type 0} {good : A → B} {bad : Answer → B} (refused : B → Answer) (after : B → List (List ℕ)) (before : List (List ℕ))
     → ((a : A) → refused (good a) ≡ refusal 0 0)
-    → ((r : Refusal) → (refused (bad r) ≡ r) × (after (bad r) ≡ before))
+    → ((r : Answer) → (refused (bad r) ≡ r) × (after (bad r) ≡ before))
     → {ns : List ℕ} {x y : B} → x ≡ y → ComesTo good bad ns y
     → Sound refused after ns before x
 sound refused after before of_good of_bad {ns} {x} is (fine a) =
     let none : refused x ≡ refusal 0 0 = ap refused is ∙ of_good a in
-    (rw none, rw none, λ some. absurd (some (ap (λ (r : Refusal). r.number) none)))
+    (rw none, rw none, λ some. absurd (some (ap (λ (r : Answer). r.number) none)))
 sound refused after before of_good of_bad {ns} {x} is (faulty r why) =
     let (own, kept) = of_bad r in
     let told : refused x ≡ r = ap refused is ∙ own in (
-      subst (λ (s : Refusal). among s.number (0 ∷ ns) ≡ true) (sym told) (among_behind r.number (0 ∷ []) ns why.listed),
+      subst (λ (s : Answer). among s.number (0 ∷ ns) ≡ true) (sym told) (among_behind r.number (0 ∷ []) ns why.listed),
       rw told why.named,
       λ some. ap after is ∙ kept,
     )
 
 -- A reading, and a writing.
 read :
-    {A B : Type 0} {good : A → B} {bad : Refusal → B} (refused : B → Refusal)
+    {A B : Type 0} {good : A → B} {bad : Answer → B} (refused : B → Answer)
     → ((a : A) → refused (good a) ≡ refusal 0 0)
-    → ((r : Refusal) → refused (bad r) ≡ r)
+    → ((r : Answer) → refused (bad r) ≡ r)
     → {ns : List ℕ} {x y : B} → x ≡ y → ComesTo good bad ns y
     → Sound refused (λ b. []) ns [] x
 read refused of_good of_bad = sound refused (λ b. []) [] of_good (λ r. (of_bad r, refl))

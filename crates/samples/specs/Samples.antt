@@ -7,19 +7,18 @@ use Rattle.rows.specs.Table.Contract.{contract50}
 use Rattle.records.specs.Answer.{Written, refusal, refusal_at, accepted, denied}
 use Rattle.records.specs.Event.{event_of, event_read, event_written}
 use Rattle.records.specs.declared.event.Event.{Event}
-use Rattle.records.specs.declared.event.EventRead.{EventRead}
-use Rattle.records.specs.declared.event.EventRead.TheVariants.{Read, Refused}
+use Rattle.records.specs.Event.{EventRead}
+use Rattle.std.specs.Prelude.{Ok, Err}
 use Rattle.lists.specs.List.{got_list, no_list, list_read, list_written}
 use Rattle.lists.specs.Entries.{listing}
 use Rattle.lists.specs.Tally.{tally_of}
 use Rattle.lists.specs.declared.list.Entry.{Entry}
-use Rattle.lists.specs.declared.list.ListRead.{ListRead}
+use Rattle.lists.specs.List.{ListRead}
 use Rattle.bip.specs.Value.{bip_read, bip_written}
 use Rattle.bip.specs.declared.Extension.{Extension}
 use Rattle.bip.specs.declared.Extension.TheVariants.{Nothing, Tag}
 use Rattle.bip.specs.declared.BipContract.{BipContract}
-use Rattle.bip.specs.declared.BipRead.{BipRead}
-use Rattle.bip.specs.declared.BipRead.TheVariants as bip
+use Rattle.bip.specs.Value.{BipRead}
 use Rattle.selection.specs.Eligible.{usable, nobody, chosen_at, choose}
 use Rattle.selection.specs.Selection.{unselected}
 use Rattle.selection.specs.declared.Selected.{Selected}
@@ -265,15 +264,15 @@ samples =
     ∷ urban_ends 0x810D 198
     ∷ urban_ends 0x0030 142
     -- P8 event with only element [17], date and minute 0: refusal 2, place 53. Field 20.
-    ∷ event_reads 0 0 (2 ^ 17) (Refused (refusal_at 2 53 20))
+    ∷ event_reads 0 0 (2 ^ 17) (Err (refusal_at 2 53 20))
     -- P9 event minute 1439 read; 1440 refusal 4, place 14. Field 1.
-    ∷ event_reads 0 1439 0 (Read (event_of (0 ∷ 1439 ∷ []) []))
-    ∷ event_reads 0 1440 0 (Refused (refusal_at 4 14 1))
+    ∷ event_reads 0 1439 0 (Ok (event_of (0 ∷ 1439 ∷ []) []))
+    ∷ event_reads 0 1440 0 (Err (refusal_at 4 14 1))
     -- P10 list of zeros but a last byte 01h: 5, place 231.
     ∷ list_reads 4 4 (0x01 and 0 zeros) (no_list (refusal 5 231))
     -- 02, Q-7: the same bytes as an event: read, with bit 231 in its margin; written, the same bytes. An event of zeros ends at bit 53:
     -- a one of its margin at bit 52 is in a field's place, one at bit 232 past the record.
-    ∷ bytes_read (0x01 and 0 zeros) (Read (event_of [] (0 ∷ 0 ∷ 0 ∷ 2 ^ 24 ∷ [])))
+    ∷ bytes_read (0x01 and 0 zeros) (Ok (event_of [] (0 ∷ 0 ∷ 0 ∷ 2 ^ 24 ∷ [])))
     ∷ margin_written (0 ∷ 0 ∷ 0 ∷ 2 ^ 24 ∷ []) (replicate 29 255) (accepted (0x01 and 0 zeros))
     ∷ margin_written (2 ^ 11 ∷ 0 ∷ 0 ∷ 2 ^ 24 ∷ []) (replicate 29 255) (denied (refusal 7 52) (replicate 29 255))
     ∷ margin_written (2 ^ 10 ∷ 0 ∷ 0 ∷ 2 ^ 23 ∷ []) (replicate 29 255) (denied (refusal 7 232) (replicate 29 255))
@@ -307,12 +306,12 @@ samples =
     (record { answer = unselected (refusal 11 0); list = 0x1C084C1 and 51 zeros; journal = [] })
     -- 02, Q-4, and 000, section 3.2.1: a tariff of 0123h stands as 01h, 23h; 3.4: 1/1/2012, 382980h minutes after 1/1/2005, stands as C7D67Fh. The
     -- tag is A000h, which as another tag is 7, and so is a date of four bytes. All bytes are legal: zeros are the last dates and tag 0.
-    ∷ bip_reads (0x1A020005_01230ABCDE_C7D67F_BFCBC0_1F_11223344_000102_A000_DEADBEEF and 0 zeros) (bip.Read (yearly from2012 to2012 Nothing))
+    ∷ bip_reads (0x1A020005_01230ABCDE_C7D67F_BFCBC0_1F_11223344_000102_A000_DEADBEEF and 0 zeros) (bip.Ok (yearly from2012 to2012 Nothing))
     ∷ bip_writes (yearly from2012 to2012 Nothing) (replicate 29 255)
     (accepted (0x1A020005_01230ABCDE_C7D67F_BFCBC0_1F_11223344_000102_A000_DEADBEEF and 0 zeros))
     ∷ bip_writes (yearly from2012 to2012 (Tag 0xA000)) (replicate 29 255) (unfit 184 11)
     ∷ bip_writes (yearly from2012 (2 ^ 24) (Tag 0xA000)) (replicate 29 255) (unfit 96 7)
-    ∷ bip_reads (replicate 28 0) (bip.Refused (refusal 1 0))
+    ∷ bip_reads (replicate 28 0) (bip.Err (refusal 1 0))
     -- Slip: treating "oldest" as the lowest pointer: with pointers listed 1 2 7 3 5 6 8 4 and 5 to 8 erasable, the plain one to
     -- take is 7.
     ∷ places 8 4 false

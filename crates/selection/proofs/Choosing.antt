@@ -17,8 +17,8 @@ use Rattle.rows.specs.Row.{pick}
 use Rattle.records.specs.Order.{record_at}
 use Rattle.contract.specs.Contract.{contract_read}
 use Rattle.contract.specs.declared.Contract.{Contract}
-use Rattle.contract.specs.declared.ContractRead.{ContractRead}
-use Rattle.contract.specs.declared.ContractRead.TheVariants.{Read, Refused}
+use Rattle.contract.specs.Contract.{ContractRead}
+use Rattle.std.specs.Prelude.{Ok, Err}
 use Rattle.selection.specs.Eligible.{usable, provides, opens, serves, eligible, chosen_at, goes_before, better, choose}
 use Rattle.selection.specs.Inner.Question.{may_open, in_question}
 use Rattle.selection.specs.Selection.{limits}
@@ -58,8 +58,8 @@ module _ (day operator : ℕ) (file : List ℕ) (position : ℕ) (e : Entry) (be
   not_in_question q = go (usable e) (goes_before e best) (contract_read e.kind (record_at file e.pointer)) q
     where
       shut : (r : ContractRead) → may_open operator e.key ≡ false → serves day operator e r ≡ false
-      shut (Read c) h = rw (opens_not operator e.key c h)
-      shut (Refused r) h = refl
+      shut (Ok c) h = rw (opens_not operator e.key c h)
+      shut (Err r) h = refl
 
       go : (u g : Bool) (r : ContractRead) → (u && g && may_open operator e.key) ≡ false
           → best ≡ pick ((u && serves day operator e r) && g) (chosen_at position e) best

@@ -14,12 +14,12 @@ use Rattle.rows.specs.Row.{pick}
 use Rattle.rows.specs.Change.{with_box}
 use Rattle.rows.proofs.Refusing.{Refusing}
 use Rattle.records.specs.Answer.{Written, refusal, accepted, denied}
-use Rattle.records.specs.declared.Refusal.{Refusal}
+use Rattle.records.specs.Answer.{Answer}
 use Rattle.records.proofs.Coming.{ComesTo, fine, faulty, unwritten, written_kept}
 use Rattle.lists.specs.List.{got_list, no_list, list_read, list_written}
 use Rattle.lists.specs.Entries.{attempted, with_priority, priority_place}
 use Rattle.lists.specs.declared.list.ContractList.{ContractList}
-use Rattle.lists.specs.declared.list.ListRead.{ListRead}
+use Rattle.lists.specs.List.{ListRead}
 use Rattle.lists.proofs.list.Laws.{list_write_read, list_comes}
 use Rattle.lists.proofs.Entries.{length_with_priority}
 use Rattle.lists.proofs.Kept.{list_kept, list_was_read}
@@ -64,13 +64,13 @@ bits_changed {before} {n} {counters} {position} {code} m =
 -- A change may be made, or is refused with one of these numbers and changes nothing.
 may_change : (before : List ℕ) (n counters position code : ℕ)
     → MayChange before n counters position code
-    ⊎ ((r : Refusal) × Refusing r.number r.field (1 ∷ 11 ∷ 2 ∷ 4 ∷ 5 ∷ 6 ∷ []) × (changing before n counters position code ≡ unwritten before r))
+    ⊎ ((r : Answer) × Refusing r.number r.field (1 ∷ 11 ∷ 2 ∷ 4 ∷ 5 ∷ 6 ∷ []) × (changing before n counters position code ≡ unwritten before r))
 unfolding changing
 may_change before n counters position code =
     go (eqb (length before) 29) (eqb position 0) refl (eqb code 13) refl (ltb 15 code) refl refl (list_comes n counters before)
   where
     Judged : Written → Type 0
-    Judged w = MayChange before n counters position code ⊎ ((r : Refusal) × Refusing r.number r.field (1 ∷ 11 ∷ 2 ∷ 4 ∷ 5 ∷ 6 ∷ []) × (w ≡ unwritten before r))
+    Judged w = MayChange before n counters position code ⊎ ((r : Answer) × Refusing r.number r.field (1 ∷ 11 ∷ 2 ∷ 4 ∷ 5 ∷ 6 ∷ []) × (w ≡ unwritten before r))
 
     eleven : Judged (denied (refusal 11 0) before)
     eleven = inr (refusal 11 0, record { some = λ z. omega arith; listed = refl; named = refl }, refl)

@@ -11,13 +11,13 @@ use borrow.Author.Tests.{eqb-true, eq-eqb, ne_eqb, leb-true, le-leb}
 use Rattle.rows.proofs.Refusing.{Refusing}
 use Rattle.records.specs.Answer.{refusal}
 use Rattle.records.specs.Order.{Attempt, next, needs, record_at}
-use Rattle.records.specs.declared.Refusal.{Refusal}
+use Rattle.records.specs.Answer.{Answer}
 use Rattle.records.proofs.Coming.{ComesTo, fine, faulty, comes_within, stops}
 use Rattle.lists.specs.List.{got_list, no_list, list_read}
 use Rattle.lists.specs.Entries.{counted, attempted}
 use Rattle.lists.specs.declared.list.ContractList.{ContractList}
 use Rattle.lists.specs.declared.list.Entry.{Entry}
-use Rattle.lists.specs.declared.list.ListRead.{ListRead}
+use Rattle.lists.specs.List.{ListRead}
 use Rattle.lists.proofs.Kept.{Apart, list_kept}
 use Rattle.lists.proofs.list.Laws.{list_comes}
 use Rattle.selection.specs.Eligible.{eligible, nobody, chosen_at}
@@ -51,7 +51,7 @@ module _ (list file : List ℕ) (n counters day operator : ℕ) where
 
   -- Another refusal comes first, or all is in order, the list reads, and its entries decide.
   data Decided (a : Selected) : Type 0 where
-    sooner : (r : Refusal) → Refusing r.number r.field (1 ∷ 11 ∷ 2 ∷ 4 ∷ 5 ∷ 6 ∷ []) → a ≡ unselected r → Decided a
+    sooner : (r : Answer) → Refusing r.number r.field (1 ∷ 11 ∷ 2 ∷ 4 ∷ 5 ∷ 6 ∷ []) → a ≡ unselected r → Decided a
     later : InOrder → (l : ContractList) → list_read n counters list ≡ got_list l → a ≡ answer (chosen (choice day operator file l)) → Decided a
 
   decided : Decided s

@@ -9,8 +9,8 @@ use Rattle.contract.specs.Contract.{contract_read}
 use Rattle.contract.specs.declared.Contract.{Contract}
 use Rattle.contract.specs.declared.Data.{Data}
 use Rattle.contract.specs.declared.Data.TheVariants.{Nothing, Carnet, Urban}
-use Rattle.contract.specs.declared.ContractRead.{ContractRead}
-use Rattle.contract.specs.declared.ContractRead.TheVariants.{Read, Refused}
+use Rattle.contract.specs.Contract.{ContractRead}
+use Rattle.std.specs.Prelude.{Ok, Err}
 use Rattle.selection.specs.declared.Selected.{Selected}
 
 -- Priorities 0 to 11 are usable.
@@ -44,8 +44,8 @@ in_force day c = not_before day c.start_date && not_after day c.end_date && data
 
 -- A record that does not read makes its entry ineligible.
 abbrev pub serves : ℕ → ℕ → Entry → ContractRead → Bool
-serves day operator e (Read c) = opens operator e.key c && in_force day c
-serves day operator e (Refused r) = false
+serves day operator e (Ok c) = opens operator e.key c && in_force day c
+serves day operator e (Err r) = false
 
 -- An entry is eligible: its priority is usable, and its record reads under its type as a contract that serves.
 abbrev pub eligible : ℕ → ℕ → List ℕ → Entry → Bool

@@ -6,12 +6,12 @@ use Rattle.records.specs.Order.{Attempt, got, stopped, next, needs, record_at}
 use Rattle.lists.specs.List.{list_read, list_written}
 use Rattle.lists.specs.Entries.{counted, attempted, with_priority}
 use Rattle.lists.specs.declared.list.ContractList.{ContractList}
-use Rattle.records.specs.declared.Refusal.{Refusal}
+use Rattle.records.specs.Answer.{Answer}
 use Rattle.selection.specs.Eligible.{eligible, nobody, choose}
 use Rattle.selection.specs.declared.Selected.{Selected}
 
 -- Refused, everything else is zero.
-abbrev pub unselected : Refusal → Selected
+abbrev pub unselected : Answer → Selected
 unselected r = record { refusal = r; position = 0; pointer = 0; priority = 0 }
 
 abbrev pub answer : Attempt Selected → Selected

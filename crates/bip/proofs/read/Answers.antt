@@ -3,7 +3,7 @@ use native.Mathlib.Omega.{arith}
 use Rattle.records.proofs.Answering.{record_read, record_short}
 use Rattle.bip.specs.Table.{bip}
 use Rattle.bip.specs.Value.{bip_of, bip_told}
-use Rattle.bip.specs.declared.BipRead.TheVariants.{Read, Refused}
+use Rattle.std.specs.Prelude.{Ok, Err}
 use Rattle.bip.proofs.Whole.{bip_rows, takes_whole}
 use Rattle.bip.proofs.read.Goals as goal
 
@@ -17,6 +17,6 @@ returns c =
     let cuts = c.words.ensures in
     let whole = c.take_fields-value.ensures in
     ap bip_told
-    (ap Read whole.value
-    ∙ record_read (λ vals margin. Read (bip_of vals)) Refused bip bytes _ whole.all whole.last (omega (arith, bip_rows)) long cuts whole.taken
+    (ap Ok whole.value
+    ∙ record_read (λ vals margin. Ok (bip_of vals)) Err bip bytes _ whole.all whole.last (omega (arith, bip_rows)) long cuts whole.taken
     (takes_whole bytes _ whole.all whole.last long cuts whole.taken) refl)

@@ -6,7 +6,7 @@ use Rattle.bits.specs.Bits.{cut, spread, cleared}
 use Rattle.records.specs.Inner.Met.{met}
 use Rattle.records.proofs.Answering.{eight_words}
 use Rattle.contract.specs.Contract.{head_numbers, numbers42, numbers50, contract_of}
-use Rattle.contract.specs.declared.ContractRead.TheVariants.{Read, Refused}
+use Rattle.std.specs.Prelude.{Ok, Err}
 use Rattle.contract.proofs.Reading.{rest_none, taken42, taken50, made42, made50, made_none, told_refused, told_read}
 use Rattle.contract.proofs.read.Goals as goal
 
@@ -23,7 +23,7 @@ returns-then-last-ne0 c =
     let rest = rest_none c.words.new.words c.args.kind head _ c.take_head-fields.ensures off in
     let same = rest.same c.if-last-ne0.true in
     told_refused c.args.kind c.args.bytes.now _ _ rest.last c.if-bytes-ne-BYTES.false (sym c.known.ensures ∙ c.if-not-known.false) c.words.ensures rest.taken
-    _ (c.refused.ensures ∙ ap (λ d. Refused (met d)) (sym same)) (rw same c.if-last-ne0.true)
+    _ (c.refused.ensures ∙ ap (λ d. Err (met d)) (sym same)) (rw same c.if-last-ne0.true)
 
 pub returns-then-not-follow : goal.returns-then-not-follow
 returns-then-not-follow c =
@@ -35,8 +35,8 @@ returns-then-not-follow c =
     told_read kind bytes _ _ rest.last c.if-bytes-ne-BYTES.false (sym c.known.ensures ∙ c.if-not-known.false) c.words.ensures rest.taken
     _
     (c.whole.ensures (spread 8 bytes) c.words.ensures
-    ∙ ap Read (sym (made_none kind head (cut 64 64 4 (cleared c.take_head-fields.result.last.at (spread 8 bytes))) rest.behind off))
-    ∙ ap (λ (at : ℕ). Read (contract_of kind (head_numbers head ++ rest.behind) (cut 64 64 4 (cleared at (spread 8 bytes))))) (sym rest.here))
+    ∙ ap Ok (sym (made_none kind head (cut 64 64 4 (cleared c.take_head-fields.result.last.at (spread 8 bytes))) rest.behind off))
+    ∙ ap (λ (at : ℕ). Ok (contract_of kind (head_numbers head ++ rest.behind) (cut 64 64 4 (cleared at (spread 8 bytes))))) (sym rest.here))
     (rest.clear c.if-last-ne0.false)
 
 pub slice_bounds-whole-end-then-kind-eq-CARNET : goal.slice_bounds-whole-end-then-kind-eq-CARNET
@@ -76,7 +76,7 @@ returns-then-kind-eq-CARNET c =
     let on = sym c.follow.ensures ∙ c.if-not-follow.false in
     told_read kind bytes _ (head_numbers head ++ numbers42 «data») c.take_carnet-carnet.result.last c.if-bytes-ne-BYTES.false (sym c.known.ensures ∙ c.if-not-known.false) c.words.ensures
     (taken42 _ kind head _ _ c.take_head-fields.ensures «data» carnet (c.take_carnet-carnet.ensures head))
-    _ (c.whole-then-kind-eq-CARNET.ensures (spread 8 bytes) c.words.ensures ∙ ap Read (sym (made42 kind head (cut 64 64 4 (cleared c.take_carnet-carnet.result.last.at (spread 8 bytes))) «data» carnet on))) c.if-last-ne0-2.false
+    _ (c.whole-then-kind-eq-CARNET.ensures (spread 8 bytes) c.words.ensures ∙ ap Ok (sym (made42 kind head (cut 64 64 4 (cleared c.take_carnet-carnet.result.last.at (spread 8 bytes))) «data» carnet on))) c.if-last-ne0-2.false
 
 pub returns-then-last-ne0-3 : goal.returns-then-last-ne0-3
 returns-then-last-ne0-3 c =
@@ -97,4 +97,4 @@ returns c =
     let on = sym c.follow.ensures ∙ c.if-not-follow.false in
     told_read kind bytes _ (head_numbers head ++ numbers50 «data») c.take_urban-urban.result.last c.if-bytes-ne-BYTES.false (sym c.known.ensures ∙ c.if-not-known.false) c.words.ensures
     (taken50 _ kind head _ _ c.take_head-fields.ensures «data» urban (c.take_urban-urban.ensures head))
-    _ (c.whole-2.ensures (spread 8 bytes) c.words.ensures ∙ ap Read (sym (made50 kind head (cut 64 64 4 (cleared c.take_urban-urban.result.last.at (spread 8 bytes))) «data» urban on))) c.if-last-ne0-3.false
+    _ (c.whole-2.ensures (spread 8 bytes) c.words.ensures ∙ ap Ok (sym (made50 kind head (cut 64 64 4 (cleared c.take_urban-urban.result.last.at (spread 8 bytes))) «data» urban on))) c.if-last-ne0-3.false

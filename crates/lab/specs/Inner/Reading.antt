@@ -4,7 +4,7 @@ use Rattle.bits.specs.Bits.{spread, cut, cleared}
 use Rattle.rows.specs.Row.{Row, pick}
 use Rattle.rows.specs.Walk.{Outcome, done, refused, total, holding, read, read_bare, slots}
 use Rattle.records.specs.Answer.{from}
-use Rattle.records.specs.declared.Refusal.{Refusal}
+use Rattle.records.specs.Answer.{Answer}
 
 -- Boxes of at most 32 bits.
 abbrev pub narrow : List ℕ → Bool
@@ -28,16 +28,16 @@ pub record Fits (rows : List Row) (bytes numbers : ℕ) : Type 0 where
   pub fits : all_sized (8 * bytes) rows ≡ true
 
 -- An outcome as a refusal, none being of number 0, beside what was read.
-abbrev pub by : {A : Type 0} → Refusal → A → ℕ → Outcome A
+abbrev pub by : {A : Type 0} → Answer → A → ℕ → Outcome A
 by r a end = pick (r.number == 0) (done a end) (refused r.number r.place r.field)
 
 -- The reading of a table: where there is no refusal, the first of some numbers are its own, and some words are its margin.
-pub record Reads (rows : List Row) (bytes : List ℕ) (r : Refusal) (numbers margin : List ℕ) : Type 0 where
+pub record Reads (rows : List Row) (bytes : List ℕ) (r : Answer) (numbers margin : List ℕ) : Type 0 where
   pub end : ℕ
   pub says : read rows (spread 8 bytes) ≡ by r (holding (spread 8 bytes) (from 0 (slots rows) numbers) end) end
   pub kept : r.number ≡ 0 → margin ≡ cut 64 64 (length margin) (cleared end (spread 8 bytes))
 
 -- The reading of a list.
-pub record ReadsBare (rows : List Row) (bytes : List ℕ) (r : Refusal) (numbers : List ℕ) : Type 0 where
+pub record ReadsBare (rows : List Row) (bytes : List ℕ) (r : Answer) (numbers : List ℕ) : Type 0 where
   pub end : ℕ
   pub says : read_bare rows (spread 8 bytes) ≡ by r (from 0 (slots rows) numbers) end

@@ -16,7 +16,7 @@ use Rattle.lists.specs.List.{entry_of, numbers_of, list_of, got_list, no_list, l
 use Rattle.lists.specs.Tally.{tally_of}
 use Rattle.lists.specs.declared.list.Entry.{Entry}
 use Rattle.lists.specs.declared.list.ContractList.{ContractList}
-use Rattle.lists.specs.declared.list.ListRead.{ListRead}
+use Rattle.lists.specs.List.{ListRead}
 use Rattle.lists.specs.declared.tally.Tally.{Tally}
 use Rattle.records.proofs.Inverse.{from_all, named_all}
 use Rattle.records.proofs.Coming.{ComesTo, fine, faulty, unwritten, comes_within, stops}

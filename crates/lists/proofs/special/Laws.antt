@@ -9,7 +9,7 @@ use Rattle.records.specs.Answer.{accepted}
 use Rattle.lists.specs.Special.{entry_of, numbers_of, special_of, got_special, no_special, special_fault, special_read, special_written}
 use Rattle.lists.specs.declared.special.SpecialEntry.{SpecialEntry}
 use Rattle.lists.specs.declared.special.SpecialList.{SpecialList}
-use Rattle.lists.specs.declared.special.SpecialRead.{SpecialRead}
+use Rattle.lists.specs.Special.{SpecialRead}
 use Rattle.records.proofs.Inverse.{from_all, named_all}
 use Rattle.records.proofs.Coming.{ComesTo, unwritten, comes_within}
 use Rattle.lists.proofs.Relisting.{listing_read_write, listing_write_read}

@@ -4,22 +4,22 @@ use Rattle.loading.proofs.Ending.{Card, unread_none, refused_unread, ends, accep
 use mathlib.Core.Path.{◌≡◌, refl, sym, ap, ◌∙◌}
 use mathlib.Core.List.{List}
 use Prim.Native.Nat.{ℕ}
-use Rattle.records.specs.declared.Refusal.{Refusal}
+use Rattle.records.specs.Answer.{Answer}
 use Rattle.loading.specs.declared.Order.{Order}
 use Rattle.loading.specs.declared.Lengths.{Lengths}
 use borrow.Author.Tests.{eq-eqb, ne_eqb}
 use Rattle.loading.proofs.load.Goals as goal
 
 -- What is refused unread, by the lengths of what is lent.
-asked : (o : Order) (list file : List ℕ) (lent : Lent) (l : Lengths) (r : Refusal) → l ≡ lengths_of list file lent → r ≡ unread o l
+asked : (o : Order) (list file : List ℕ) (lent : Lent) (l : Lengths) (r : Answer) → l ≡ lengths_of list file lent → r ≡ unread o l
     → r ≡ unread o (lengths_of list file lent)
 asked o list file lent l r of is = is ∙ ap (unread o) of
 
 -- Where nothing is, lengths and limits agree.
-card_of : (o : Order) (list file : List ℕ) (lent : Lent) (l : Lengths) (r : Refusal) → l ≡ lengths_of list file lent → r ≡ unread o l
+card_of : (o : Order) (list file : List ℕ) (lent : Lent) (l : Lengths) (r : Answer) → l ≡ lengths_of list file lent → r ≡ unread o l
     → r.number ≡ 0 → Card o list file lent
 card_of o list file lent l r of is none =
-    unread_none o list file lent (ap (λ (x : Refusal). x.number) (sym (asked o list file lent l r of is)) ∙ none)
+    unread_none o list file lent (ap (λ (x : Answer). x.number) (sym (asked o list file lent l r of is)) ∙ none)
 
 pub returns-then-unread-ne0 : goal.returns-then-unread-ne0
 returns-then-unread-ne0 c = rw c.refused.ensures (refused_unread _ _ _ _ _ (asked c.args.order _ _ _ _ _ c.of-lent.ensures c.refused_unread-unread.ensures) c.if-unread-ne0.true)

@@ -3,16 +3,16 @@ use Rattle.std.specs.Prelude.{ℕ, Bool, List, eqb}
 use Rattle.rows.specs.Row.{pick}
 use Rattle.records.specs.Answer.{refusal}
 use Rattle.records.specs.Order.{Attempt, got, next}
-use Rattle.records.specs.declared.Refusal.{Refusal}
+use Rattle.records.specs.Answer.{Answer}
 use Rattle.lists.specs.List.{list_written}
 use Rattle.lists.specs.Entries.{counted, without_pointer, appended}
 use Rattle.lists.specs.declared.list.ContractList.{ContractList}
-use Rattle.lists.specs.declared.list.ListRead.{ListRead}
+use Rattle.lists.specs.List.{ListRead}
 use Rattle.contract.specs.Contract.{contract_read}
 use Rattle.loading.specs.Place.{place}
 use Rattle.loading.specs.Loading.{Lent, Outcome, contract_got, blocking, loaded, both_or_neither, new_entry, placed}
 use Rattle.loading.specs.declared.Order.{Order}
-use Rattle.loading.specs.declared.Loaded.{Loaded}
+use Rattle.loading.specs.Loading.{Loaded}
 
 -- The old list without the pointer's entry, and with the new one.
 abbrev pub renewed : Order → ContractList → ℕ → ContractList
@@ -35,7 +35,7 @@ rest_read o lent =
     (λ is_blocked. next (contract_got (contract_read o.kind lent.new)) (λ new. got is_blocked))
 
 -- Then the list's refusal comes first, that of the rest next.
-unfoldable pub ended : Order → List ℕ → List ℕ → List ℕ → Refusal → (ℕ → Bool) → ListRead → Outcome
+unfoldable pub ended : Order → List ℕ → List ℕ → List ℕ → Answer → (ℕ → Bool) → ListRead → Outcome
 ended o list file new rest is_blocked r =
     pick (eqb r.refusal.number 0)
     (pick (eqb rest.number 0)

@@ -8,10 +8,10 @@ use Rattle.rows.specs.Margin.{words_of}
 use Rattle.rows.specs.Table.Environment.{environment}
 use Rattle.rows.proofs.RoundTrip.{read_slots}
 use Rattle.records.specs.Answer.{accepted}
-use Rattle.records.specs.Environment.{numbers_of, environment_of, environment_read, environment_written}
-use Rattle.records.specs.declared.Refusal.{Refusal}
+use Rattle.records.specs.Environment.{EnvironmentRead, numbers_of, environment_of, environment_read, environment_written}
+use Rattle.records.specs.Answer.{Answer}
 use Rattle.records.specs.declared.environment.Environment.{Environment}
-use Rattle.records.specs.declared.environment.EnvironmentRead.TheVariants.{Read, Refused}
+use Rattle.std.specs.Prelude.{Ok, Err}
 use Rattle.records.proofs.Inverse.{View, from_all, record_read_write, record_write_read}
 use Rattle.records.proofs.Coming.{ComesTo, unwritten, comes_within, record_comes, record_write_comes}
 
@@ -30,24 +30,24 @@ view =
       kept = λ vals margin long. from_all 4 margin long;
     }
 
-same : (a b : Environment) → Read a ≡ Read b → a ≡ b
+same : (a b : Environment) → ◌≡◌ {A = EnvironmentRead} (Ok a) (Ok b) → a ≡ b
 same a b h = cc
 
-apart : (r : Refusal) (e : Environment) → Refused r ≡ Read e → ⊥
+apart : (r : Answer) (e : Environment) → Err r ≡ Ok e → ⊥
 apart r e h = let z : ◌≡◌ {A = ℕ} 0 1 = cc in omega arith
 
 pub environment_read_write : (bytes onto : List ℕ) (e : Environment) → ((i : ℕ) → get_or bytes i 0 < 2 ^ 8) → length onto ≡ 29
-    → environment_read bytes ≡ Read e
+    → environment_read bytes ≡ Ok e
     → environment_written onto e ≡ accepted bytes
-environment_read_write bytes onto e small long h = record_read_write Read Refused same apart view bytes onto e small long h
+environment_read_write bytes onto e small long h = record_read_write Ok Err same apart view bytes onto e small long h
 
 pub environment_write_read : (before after : List ℕ) (e : Environment) → ((i : ℕ) → get_or (words_of e.margin) i 0 < 2 ^ 64)
     → environment_written before e ≡ accepted after
-    → environment_read after ≡ Read e
-environment_write_read before after e small h = record_write_read Read Refused same apart view before after e small h
+    → environment_read after ≡ Ok e
+environment_write_read before after e small h = record_write_read Ok Err same apart view before after e small h
 
 -- The refusals of a reading and of a writing.
-pub environment_comes : (bytes : List ℕ) → ComesTo Read Refused (1 ∷ 3 ∷ []) (environment_read bytes)
+pub environment_comes : (bytes : List ℕ) → ComesTo Ok Err (1 ∷ 3 ∷ []) (environment_read bytes)
 unfolding environment
 environment_comes bytes = comes_within (record_comes environment_of environment bytes) refl
 

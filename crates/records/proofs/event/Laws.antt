@@ -13,10 +13,10 @@ use Rattle.rows.specs.declared.Rule.TheVariants.{Any}
 use Rattle.rows.proofs.RoundTrip.{read_slots}
 use Rattle.rows.proofs.Wide.{read_wide}
 use Rattle.records.specs.Answer.{accepted}
-use Rattle.records.specs.Event.{numbers_of, event_of, event_read, event_written}
-use Rattle.records.specs.declared.Refusal.{Refusal}
+use Rattle.records.specs.Event.{EventRead, numbers_of, event_of, event_read, event_written}
+use Rattle.records.specs.Answer.{Answer}
 use Rattle.records.specs.declared.event.Event.{Event}
-use Rattle.records.specs.declared.event.EventRead.TheVariants.{Read, Refused}
+use Rattle.std.specs.Prelude.{Ok, Err}
 use Rattle.records.proofs.Inverse.{View, from_all, record_read_write, record_write_read}
 use Rattle.records.proofs.Coming.{ComesTo, unwritten, comes_within, record_comes, record_write_comes}
 
@@ -43,24 +43,24 @@ view =
       kept = λ vals margin long. from_all 4 margin long;
     }
 
-same : (a b : Event) → Read a ≡ Read b → a ≡ b
+same : (a b : Event) → ◌≡◌ {A = EventRead} (Ok a) (Ok b) → a ≡ b
 same a b h = cc
 
-apart : (r : Refusal) (e : Event) → Refused r ≡ Read e → ⊥
+apart : (r : Answer) (e : Event) → Err r ≡ Ok e → ⊥
 apart r e h = let z : ◌≡◌ {A = ℕ} 0 1 = cc in omega arith
 
 pub event_read_write : (bytes onto : List ℕ) (e : Event) → ((i : ℕ) → get_or bytes i 0 < 2 ^ 8) → length onto ≡ 29
-    → event_read bytes ≡ Read e
+    → event_read bytes ≡ Ok e
     → event_written onto e ≡ accepted bytes
-event_read_write bytes onto e small long h = record_read_write Read Refused same apart view bytes onto e small long h
+event_read_write bytes onto e small long h = record_read_write Ok Err same apart view bytes onto e small long h
 
 pub event_write_read : (before after : List ℕ) (e : Event) → ((i : ℕ) → get_or (words_of e.margin) i 0 < 2 ^ 64)
     → event_written before e ≡ accepted after
-    → event_read after ≡ Read e
-event_write_read before after e small h = record_write_read Read Refused same apart view before after e small h
+    → event_read after ≡ Ok e
+event_write_read before after e small h = record_write_read Ok Err same apart view before after e small h
 
 -- The refusals of a reading and of a writing.
-pub event_comes : (bytes : List ℕ) → ComesTo Read Refused (1 ∷ 2 ∷ 4 ∷ []) (event_read bytes)
+pub event_comes : (bytes : List ℕ) → ComesTo Ok Err (1 ∷ 2 ∷ 4 ∷ []) (event_read bytes)
 unfolding event
 event_comes bytes = comes_within (record_comes event_of event bytes) refl
 

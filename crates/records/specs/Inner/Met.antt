@@ -3,7 +3,7 @@ use Rattle.std.specs.Prelude.{◌-◌, eqb}
 use Rattle.rows.specs.Row.{pick}
 use Rattle.rows.specs.Inner.Standing.{Standing}
 use Rattle.records.specs.Answer.{refusal, refusal_at}
-use Rattle.records.specs.declared.Refusal.{Refusal}
+use Rattle.records.specs.Answer.{Answer}
 
-abbrev pub met : Standing → Refusal
+abbrev pub met : Standing → Answer
 met c = pick (eqb c.why 0) (refusal 0 0) (refusal_at c.why c.at (c.field - 1))

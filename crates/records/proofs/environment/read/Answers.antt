@@ -1,8 +1,10 @@
-use mathlib.Core.Path.{ap}
+use Rattle.std.proofs.Common.{◌≡◌, Err, rules}
+use mathlib.Core.Path.{ap, ◌∙◌}
+use Rattle.rows.specs.Inner.Standing.{stand}
 use native.Mathlib.Omega.{arith}
 use Rattle.bits.specs.Bits.{spread}
 use Rattle.rows.proofs.Tables.{environment_rows}
-use Rattle.records.proofs.Answering.{eight_words, record_read, record_refused, record_short}
+use Rattle.records.proofs.Answering.{met_none, met_one, eight_words, record_read, record_refused, record_short}
 use Rattle.records.specs.Environment.{environment_told}
 use Rattle.records.proofs.environment.read.Goals as goal
 
@@ -12,12 +14,16 @@ returns-then-bytes-ne-BYTES c = ap environment_told (record_short _ _ _ _ c.if-b
 pub slice_bounds-take-end : goal.slice_bounds-take-end
 slice_bounds-take-end c = eight_words c.args.bytes.now _ c.words.ensures
 
-pub returns-then-last-ne0 : goal.returns-then-last-ne0
-returns-then-last-ne0 c = rw c.met.ensures (ap environment_told (record_refused _ _ _ c.args.bytes.now _ _ _ (omega (arith, environment_rows)) c.if-bytes-ne-BYTES.false c.words.ensures c.take_fields-fields.ensures c.if-last-ne0.true))
+pub returns-in_err-met : goal.returns-in_err-met
+returns-in_err-met c =
+    let last = stand c.take_fields-fields.result.last in
+    let one = c.in_err-met.ensures in
+    let is : c.from_residual.result ≡ Err c.in_err-met.field-0.0 = search rules in
+    rw is (ap environment_told (ap Err one ∙ record_refused _ _ _ c.args.bytes.now _ _ _ (omega (arith, environment_rows)) c.if-bytes-ne-BYTES.false c.words.ensures c.take_fields-fields.ensures (met_one _ last one)))
 
 pub returns : goal.returns
 returns c =
     let bytes = c.args.bytes.now in
     ap environment_told
-    (record_read _ _ _ bytes _ _ _ (omega (arith, environment_rows)) c.if-bytes-ne-BYTES.false c.words.ensures c.take_fields-fields.ensures c.if-last-ne0.false
+    (record_read _ _ _ bytes _ _ _ (omega (arith, environment_rows)) c.if-bytes-ne-BYTES.false c.words.ensures c.take_fields-fields.ensures (met_none (stand c.take_fields-fields.result.last) (c.in_ok-met.ensures))
     (c.take-value.ensures (spread 8 bytes) c.words.ensures))

@@ -1,23 +1,29 @@
+use Rattle.std.proofs.Common.{◌≡◌, Err, rules}
 use mathlib.Core.Path.{refl}
+use Rattle.rows.specs.Inner.Standing.{stand}
 use native.Mathlib.Omega.{arith}
 use Rattle.rows.specs.Table.Environment.{environment}
 use Rattle.rows.proofs.Tables.{environment_rows}
-use Rattle.records.proofs.Answering.{record_unput, record_written, record_unwritten}
+use Rattle.records.proofs.Answering.{met_none, met_one, record_unput, record_written, record_unwritten}
 use Rattle.records.proofs.environment.write.Goals as goal
 
 pub returns-then-bytes-ne-BYTES : goal.returns-then-bytes-ne-BYTES
 unfolding environment
 returns-then-bytes-ne-BYTES c = record_unwritten _ _ _ _ c.if-bytes-ne-BYTES.true
 
-pub returns-then-last-ne0 : goal.returns-then-last-ne0
+pub returns-in_err-met : goal.returns-in_err-met
 unfolding environment
-returns-then-last-ne0 c = rw c.met.ensures (record_unput environment _ _ _ _ _ _ _ (omega (arith, environment_rows)) refl refl c.if-bytes-ne-BYTES.false c.put_fields-last.ensures.puts c.if-last-ne0.true)
+returns-in_err-met c =
+    let last = stand c.put_fields-last.result in
+    let one = c.in_err-met.ensures in
+    let is : c.from_residual.result ≡ Err c.in_err-met.field-0.0 = search rules in
+    rw (is, one) (record_unput environment _ _ _ _ _ _ _ (omega (arith, environment_rows)) refl refl c.if-bytes-ne-BYTES.false c.put_fields-last.ensures.puts (met_one _ last one))
 
 pub put-end-requires : goal.put-end-requires
-put-end-requires c = (c.put_fields-last.ensures.ready, (c.if-last-ne0.false, omega arith))
+put-end-requires c = (c.put_fields-last.ensures.ready, ((met_none (stand c.put_fields-last.result) (c.in_ok-met.ensures)), omega arith))
 
 pub returns : goal.returns
 unfolding environment
 returns c =
     rw c.met-2.ensures
-    (record_written environment _ _ _ _ _ _ _ (omega (arith, environment_rows)) refl refl _ _ _ c.if-last-ne0.false c.end.ensures c.if-bytes-ne-BYTES.false c.put_fields-last.ensures.puts c.put-end.ensures)
+    (record_written environment _ _ _ _ _ _ _ (omega (arith, environment_rows)) refl refl _ _ _ (met_none (stand c.put_fields-last.result) (c.in_ok-met.ensures)) c.end.ensures c.if-bytes-ne-BYTES.false c.put_fields-last.ensures.puts c.put-end.ensures)
