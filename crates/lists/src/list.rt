@@ -5,7 +5,6 @@ ghost use Rattle.rows.specs.Inner.Line.{start, Puts};
 ghost use Rattle.rows.specs.Table.BestContracts.{entry, contract_list};
 ghost use Rattle.lists.specs.Inner.Steps.{obeyed, tallied, EntryTook, RestTook, EntryGave};
 ghost use Rattle.lists.specs.Inner.Judging.{Recounts};
-ghost use Rattle.bits.specs.Bits.{bit};
 ghost use Rattle.lists.specs.List.{entry_numbers, entry_of, numbers_of, list_of, outside, list_fault, list_read, list_written, no_list, fair};
 ghost use Rattle.lists.specs.Entries.{counted, with_priority, appended, without_pointer};
 ghost use Rattle.lists.specs.Tally.{used_up, tally_of, free_of};
@@ -136,14 +135,10 @@ impl Entry {
         }
     }
 
-    // 1 where it is used up, else 0.
-    fn used_up(self) -> u32
-        ensures { result ≡ bit (used_up self) }
+    fn used_up(self) -> bool
+        ensures { result ≡ used_up self }
     {
-        if self.priority == Entry::ERASABLE {
-            return 1;
-        }
-        0
+        self.priority == Entry::ERASABLE
     }
 }
 
@@ -252,13 +247,9 @@ impl ContractList {
     fn fresh_tally(self, c: u32) -> Tally
         ensures { result ≡ tally_of c (counted self) }
     {
-        let n = self.len();
         let mut tally = Tally::NONE;
-        let mut i = 0;
-        while i < n {
-            let entry = self.entries[i];
+        for entry in self.counted() {
             tally = tally.with(c, entry.pointer, entry.priority);
-            i += 1;
         }
         tally
     }
@@ -303,23 +294,20 @@ impl ContractList {
         let n = self.len();
         let mut gone = 0;
         let mut left = 0;
-        let mut i = 0;
-        while i < n {
+        for i in 0..n {
             let entry = self.entries[i];
             if entry.pointer != pointer {
                 self.entries[left] = entry;
                 left += 1;
             } else {
-                gone += entry.used_up();
+                gone += u32::from(entry.used_up());
             }
-            i += 1;
         }
         let tally = self.tally;
         self.tally = tally.without(c, pointer, gone);
         self.count = left as u32;
-        while left < 8 {
-            self.entries[left] = Entry::NONE;
-            left += 1;
+        for k in left..8 {
+            self.entries[k] = Entry::NONE;
         }
         self
     }
@@ -329,15 +317,11 @@ impl ContractList {
         requires { n ≤ 8 }
         ensures { Recounts n c (counted self) result }
     {
-        let len = self.len();
         let mut judged = Judged::NONE;
         let mut spent = Spent::NONE;
-        let mut i = 0;
-        while i < len {
-            let entry = self.entries[i];
-            i += 1;
+        for (i, entry) in self.counted().iter().enumerate() {
             spent = spent.with(c, entry.pointer, entry.priority);
-            judged = judged.with(i as u32, entry.bitmap, entry.pointer, Entry::FULL, n);
+            judged = judged.with(i as u32 + 1, entry.bitmap, entry.pointer, Entry::FULL, n);
         }
         Recount { judged, spent }
     }
@@ -376,10 +360,14 @@ impl ContractList {
     pub fn len(self) -> usize
         ensures { result ≡ length (counted self) }
     {
-        if self.count < ContractList::MOST {
-            return self.count as usize;
-        }
-        8
+        self.count.min(ContractList::MOST) as usize
+    }
+
+    fn counted(&self) -> &[Entry]
+        ensures { result.now ≡ counted self.now }
+    {
+        let n = self.len();
+        &self.entries[..n]
     }
 }
 
@@ -436,8 +424,7 @@ pub fn read(bytes: &[u8], n: u32, c: u32) -> ListRead
     let mut judged = Judged::NONE;
     let mut spent = Spent::NONE;
     let mut last = head;
-    let mut k = 0;
-    while k < count {
+    for k in 0..count {
         let taken = take_entry(&words, last, count, k);
         let entry = taken.entry;
         last = taken.last;
@@ -445,9 +432,8 @@ pub fn read(bytes: &[u8], n: u32, c: u32) -> ListRead
             return refused(Refusal::met(last));
         }
         list.entries[k as usize] = entry;
-        k += 1;
         spent = spent.with(c, entry.pointer, entry.priority);
-        judged = judged.with(k, entry.bitmap, entry.pointer, Entry::FULL, n);
+        judged = judged.with(k + 1, entry.bitmap, entry.pointer, Entry::FULL, n);
     }
     let end = rules::obeyed(take::end(&words, BITS, last), judged.fault);
     if end.why != 0 {
@@ -563,8 +549,8 @@ fn held(end: Cursor, list: ContractList, n: u32, c: u32) -> Cursor
     if ruled.why != 0 {
         return ruled;
     }
-    let tally = list.tally;
-    rules::fair(ruled, tally.equals(spent.tally(c, judged.used)))
+    let fresh = spent.tally(c, judged.used);
+    rules::fair(ruled, list.tally == fresh)
 }
 
 fn put_entry(draft: &mut [u64], c: Cursor, count: u32, k: u32, e: Entry) -> Cursor
@@ -611,7 +597,6 @@ fn put_list(draft: &mut [u64], n: u32, list: ContractList) -> Cursor
     ensures { Puts 232 (numbers_of list) (contract_list n) [] draft.old start (numbers_of list) draft.new result }
 {
     let count = list.count;
-    let es = list.entries;
     let head = put::at_most(
         draft,
         BITS,
@@ -622,10 +607,8 @@ fn put_list(draft: &mut [u64], n: u32, list: ContractList) -> Cursor
         count,
     );
     let mut c = head;
-    let mut k = 0;
-    while k < 8 {
-        c = put_entry(draft, c, count, k as u32, es[k]);
-        k += 1;
+    for (k, entry) in list.entries.iter().enumerate() {
+        c = put_entry(draft, c, count, k as u32, *entry);
     }
     c
 }

@@ -198,13 +198,11 @@ fn take_list(words: &[u64]) -> ListTaken
     let mut list = SpecialList::NONE;
     list.count = count;
     let mut last = head;
-    let mut k = 0;
-    while k < 4 {
+    for k in 0..4 {
         let taken = take_entry(words, last, count, k as u32);
         let entry = taken.entry;
         last = taken.last;
         list.entries[k] = entry;
-        k += 1;
     }
     ListTaken { list, last }
 }

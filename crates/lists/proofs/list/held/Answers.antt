@@ -14,8 +14,8 @@ returns-then-ruled-ne0 c =
     let why = ne_eqb _ _ c.if-ruled-ne0.true in
     own ∙ sym (rw (← own, why, or-true))
 
-pub tally-requires : goal.tally-requires
-tally-requires c =
+pub tally-fresh-requires : goal.tally-fresh-requires
+tally-fresh-requires c =
     let eight : length c.args.list.entries ≡ 8 = search (rules, length_of_map) in
     (c.requires.1, recount_ready _ _ c.args.list eight _ c.recounted-recount.ensures)
 
@@ -25,5 +25,5 @@ returns c =
     let so = c.recounted-recount.ensures in
     let clear = obeyed_none c.args.end c.recounted-recount.result.judged.fault (rw c.obeyed-ruled.ensures at c.if-ruled-ne0.false) in
     let own = rw (rule_held _ _ c.args.list eight _ so) at c.obeyed-ruled.ensures in
-    let right = c.equals.ensures ∙ tally_held _ _ c.args.list eight _ so _ clear c.tally.ensures in
+    let right = c.eq.ensures ∙ tally_held _ _ c.args.list eight _ so _ clear c.tally-fresh.ensures in
     c.fair.ensures ∙ rw (right, own)
