@@ -1,14 +1,15 @@
 // Special event list.
-ghost use Rattle.std.specs.Prelude.{◌≡◌, [], ◌+◌, ◌*◌, ◌≤◌, length};
+ghost use Rattle.std.specs.Prelude.{◌≡◌, [], ◌+◌, ◌*◌, ◌≤◌, length, take};
 ghost use Rattle.rows.specs.Inner.Step.{Ready, Drafted};
 ghost use Rattle.rows.specs.Inner.Line.{start, Taken, Puts};
 ghost use Rattle.rows.specs.Table.Special.{entry, special_list};
 ghost use Rattle.records.specs.Answer.{Written};
 ghost use Rattle.lists.specs.Inner.Steps.{EntryTook, EntryGave};
+ghost use Rattle.lists.specs.Inner.Judging.{optional};
 ghost use Rattle.lists.specs.Special.{entry_numbers, entry_of, numbers_of, special_of, special_fault, special_read, special_written, no_special};
 
 use crate::rules;
-use crate::rules::COUNT_BITS;
+use crate::rules::{COUNT_BITS, Judged};
 use records::{BITS, BYTES, Refusal};
 use rows::{Cursor, When, put, take};
 
@@ -116,6 +117,13 @@ impl SpecialList {
             entries: [first, second, third, fourth],
         }
     }
+
+    fn counted(&self) -> &[SpecialEntry]
+        ensures { result.now ≡ take self.now.count self.now.entries }
+    {
+        let n = self.count.min(SpecialList::MOST) as usize;
+        &self.entries[..n]
+    }
 }
 
 // An entry's numbers, and the cursor behind it.
@@ -207,15 +215,16 @@ fn take_list(words: &[u64]) -> ListTaken
     ListTaken { list, last }
 }
 
-// The number of the first entry that breaks the list rule, or 0.
-fn at_fault(list: SpecialList, s: u32) -> u32
+// The number, from 1, of the first of the counted entries that breaks the list rule.
+fn at_fault(list: SpecialList, s: u32) -> Option<u32>
     requires { s ≤ 8 }
-    ensures { result ≡ special_fault s (numbers_of list) }
+    ensures { result ≡ optional (special_fault s (numbers_of list)) }
 {
-    let es = list.entries;
-    let bitmaps = [es[0].bitmap, es[1].bitmap, es[2].bitmap, es[3].bitmap];
-    let pointers = [es[0].pointer, es[1].pointer, es[2].pointer, es[3].pointer];
-    rules::first_at_fault(&bitmaps, &pointers, list.count, SpecialEntry::FULL, s)
+    let mut judged = Judged::NONE;
+    for (i, entry) in list.counted().iter().enumerate() {
+        judged = judged.with(i as u32 + 1, entry.bitmap, entry.pointer, SpecialEntry::FULL, s);
+    }
+    judged.fault
 }
 
 // Writes a special event list to a lent record, all of it; refused, the record is as it was.
