@@ -47,7 +47,7 @@ use Rattle.lists.proofs.Kept.{inside_limits}
 use Rattle.lists.proofs.list.Laws.{bitmaps, pointers, fault_list, list_of_numbers}
 use Rattle.lists.proofs.Listing.{obeyed_none, list_read_law, list_refused}
 
-numbers_flat : (l : ContractList) → length l.entries ≡ 8 → numbers_of l ≡ l.count ∷ flat entry_numbers l.entries
+pub numbers_flat : (l : ContractList) → length l.entries ≡ 8 → numbers_of l ≡ l.count ∷ flat entry_numbers l.entries
 numbers_flat l eight = ap (λ (es : List Entry). l.count ∷ flat entry_numbers es) (named_all (entry_of [] 0) 8 l.entries eight)
 
 -- An entry that is not counted has zeros.

@@ -16,6 +16,7 @@ use crate::tally::{Spent, Tally};
 use records::{BITS, BYTES, Refusal};
 use rows::take::ListTariff;
 use rows::{Cursor, When, put, take};
+use std::array;
 
 // An entry: its elements are [0] network, [1] tariff (key, kind and priority), [2] pointer.
 #[derive(Clone, Copy)]
@@ -120,10 +121,23 @@ impl Entry {
         }
     }
 
+    fn numbers(self) -> [u32; 6]
+        ensures { result ≡ entry_numbers self }
+    {
+        [
+            self.bitmap,
+            self.network,
+            self.key,
+            self.kind,
+            self.priority,
+            self.pointer,
+        ]
+    }
+
     // The entry whose numbers stand from i on.
-    fn at(numbers: [u32; 49], i: usize) -> Entry
-        requires { i ≤ 43 }
-        ensures { result ≡ entry_of numbers i }
+    fn at(numbers: &[u32], i: usize) -> Entry
+        requires { i + 6 ≤ length numbers.now }
+        ensures { result ≡ entry_of numbers.now i }
     {
         Entry {
             bitmap: numbers[i],
@@ -159,87 +173,25 @@ impl ContractList {
     pub fn numbers(self) -> [u32; 49]
         ensures { result ≡ numbers_of self }
     {
-        let es = self.entries;
-        let first = es[0];
-        let second = es[1];
-        let third = es[2];
-        let fourth = es[3];
-        let fifth = es[4];
-        let sixth = es[5];
-        let seventh = es[6];
-        let eighth = es[7];
-        [
-            self.count,
-            first.bitmap,
-            first.network,
-            first.key,
-            first.kind,
-            first.priority,
-            first.pointer,
-            second.bitmap,
-            second.network,
-            second.key,
-            second.kind,
-            second.priority,
-            second.pointer,
-            third.bitmap,
-            third.network,
-            third.key,
-            third.kind,
-            third.priority,
-            third.pointer,
-            fourth.bitmap,
-            fourth.network,
-            fourth.key,
-            fourth.kind,
-            fourth.priority,
-            fourth.pointer,
-            fifth.bitmap,
-            fifth.network,
-            fifth.key,
-            fifth.kind,
-            fifth.priority,
-            fifth.pointer,
-            sixth.bitmap,
-            sixth.network,
-            sixth.key,
-            sixth.kind,
-            sixth.priority,
-            sixth.pointer,
-            seventh.bitmap,
-            seventh.network,
-            seventh.key,
-            seventh.kind,
-            seventh.priority,
-            seventh.pointer,
-            eighth.bitmap,
-            eighth.network,
-            eighth.key,
-            eighth.kind,
-            eighth.priority,
-            eighth.pointer,
-        ]
+        let mut numbers = [0u32; 49];
+        numbers[0] = self.count;
+        for (k, entry) in self.entries.iter().enumerate() {
+            let at = 1 + 6 * k;
+            numbers[at..at + 6].copy_from_slice(&entry.numbers());
+        }
+        numbers
     }
 
     // The list of such numbers, with the tally of its counted entries.
     pub fn of(c: u32, numbers: [u32; 49]) -> ContractList
         ensures { result ≡ list_of c numbers }
     {
-        let first = Entry::at(numbers, 1);
-        let second = Entry::at(numbers, 7);
-        let third = Entry::at(numbers, 13);
-        let fourth = Entry::at(numbers, 19);
-        let fifth = Entry::at(numbers, 25);
-        let sixth = Entry::at(numbers, 31);
-        let seventh = Entry::at(numbers, 37);
-        let eighth = Entry::at(numbers, 43);
         let mut list = ContractList {
             count: numbers[0],
-            entries: [first, second, third, fourth, fifth, sixth, seventh, eighth],
+            entries: array::from_fn(|k| Entry::at(&numbers, 1 + 6 * k)),
             tally: Tally::NONE,
         };
-        let tally = list.fresh_tally(c);
-        list.tally = tally;
+        list.tally = list.fresh_tally(c);
         list
     }
 

@@ -12,6 +12,7 @@ use crate::rules;
 use crate::rules::{COUNT_BITS, Judged};
 use records::{BITS, BYTES, Refusal};
 use rows::{Cursor, When, put, take};
+use std::array;
 
 // An entry: its elements are [0] network, [1] provider, [2] seriousness, [3] pointer.
 #[derive(Clone, Copy)]
@@ -47,10 +48,22 @@ impl SpecialEntry {
         pointer: 0,
     };
 
+    fn numbers(self) -> [u32; 5]
+        ensures { result ≡ entry_numbers self }
+    {
+        [
+            self.bitmap,
+            self.network,
+            self.provider,
+            self.seriousness,
+            self.pointer,
+        ]
+    }
+
     // The entry whose numbers stand from i on.
-    fn at(numbers: [u32; 21], i: usize) -> SpecialEntry
-        requires { i ≤ 16 }
-        ensures { result ≡ entry_of numbers i }
+    fn at(numbers: &[u32], i: usize) -> SpecialEntry
+        requires { i + 5 ≤ length numbers.now }
+        ensures { result ≡ entry_of numbers.now i }
     {
         SpecialEntry {
             bitmap: numbers[i],
@@ -75,46 +88,21 @@ impl SpecialList {
     pub fn numbers(self) -> [u32; 21]
         ensures { result ≡ numbers_of self }
     {
-        let es = self.entries;
-        let first = es[0];
-        let second = es[1];
-        let third = es[2];
-        let fourth = es[3];
-        [
-            self.count,
-            first.bitmap,
-            first.network,
-            first.provider,
-            first.seriousness,
-            first.pointer,
-            second.bitmap,
-            second.network,
-            second.provider,
-            second.seriousness,
-            second.pointer,
-            third.bitmap,
-            third.network,
-            third.provider,
-            third.seriousness,
-            third.pointer,
-            fourth.bitmap,
-            fourth.network,
-            fourth.provider,
-            fourth.seriousness,
-            fourth.pointer,
-        ]
+        let mut numbers = [0u32; 21];
+        numbers[0] = self.count;
+        for (k, entry) in self.entries.iter().enumerate() {
+            let at = 1 + 5 * k;
+            numbers[at..at + 5].copy_from_slice(&entry.numbers());
+        }
+        numbers
     }
 
     pub fn of(numbers: [u32; 21]) -> SpecialList
         ensures { result ≡ special_of numbers }
     {
-        let first = SpecialEntry::at(numbers, 1);
-        let second = SpecialEntry::at(numbers, 6);
-        let third = SpecialEntry::at(numbers, 11);
-        let fourth = SpecialEntry::at(numbers, 16);
         SpecialList {
             count: numbers[0],
-            entries: [first, second, third, fourth],
+            entries: array::from_fn(|k| SpecialEntry::at(&numbers, 1 + 5 * k)),
         }
     }
 

@@ -39,7 +39,7 @@ impl Positions {
     {
         Positions {
             used: lowered(self.used, pointer),
-            spent: less(self.spent, gone),
+            spent: self.spent.saturating_sub(gone),
         }
     }
 
@@ -203,20 +203,11 @@ fn one_more(spent: u32, priority: u32) -> u32
     spent
 }
 
-fn less(spent: u32, gone: u32) -> u32
-    ensures { result ≡ spent - gone }
-{
-    if spent < gone {
-        return 0;
-    }
-    spent - gone
-}
-
 fn one_less(spent: u32, priority: u32) -> u32
     ensures { result ≡ one_less priority spent }
 {
     if priority == Entry::ERASABLE {
-        return less(spent, 1);
+        return spent.saturating_sub(1);
     }
     spent
 }

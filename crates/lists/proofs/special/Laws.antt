@@ -8,13 +8,14 @@ use Rattle.rows.specs.Table.Special.{special_list}
 use Rattle.records.specs.Answer.{accepted}
 use Rattle.lists.specs.Rules.{first_at_fault}
 use Rattle.lists.specs.Listing.{column}
-use Rattle.lists.specs.Special.{entry_of, numbers_of, special_of, got_special, no_special, special_fault, special_read, special_written}
+use Rattle.lists.specs.Special.{entry_numbers, entry_of, numbers_of, special_of, got_special, no_special, special_fault, special_read, special_written}
 use Rattle.lists.specs.declared.special.SpecialEntry.{SpecialEntry}
 use Rattle.lists.specs.declared.special.SpecialList.{SpecialList}
 use Rattle.lists.specs.declared.special.SpecialRead.{SpecialRead}
 use Rattle.records.proofs.Inverse.{from_all, named_all}
 use Rattle.records.proofs.Coming.{ComesTo, unwritten, comes_within}
 use Rattle.lists.proofs.Judging.{take-map}
+use Rattle.lists.proofs.Rowing.{flat}
 use Rattle.lists.proofs.Relisting.{listing_read_write, listing_write_read}
 use Rattle.lists.proofs.Coming.{listing_comes, listing_write_comes}
 
@@ -22,6 +23,9 @@ use Rattle.lists.proofs.Coming.{listing_comes, listing_write_comes}
 pub special_of_numbers : (l : SpecialList) → length l.entries ≡ 4 → special_of (numbers_of l) ≡ l
 special_of_numbers l four =
     ap (λ (es : List SpecialEntry). record { count = l.count; entries = es }) (named_all (entry_of [] 0) 4 l.entries four)
+
+pub numbers_flat : (l : SpecialList) → length l.entries ≡ 4 → numbers_of l ≡ l.count ∷ flat entry_numbers l.entries
+numbers_flat l four = ap (λ (es : List SpecialEntry). l.count ∷ flat entry_numbers es) (named_all (entry_of [] 0) 4 l.entries four)
 
 -- The bitmaps and pointers of some entries, and the first of a list's entries at fault.
 abbrev pub bitmaps : List SpecialEntry → List ℕ

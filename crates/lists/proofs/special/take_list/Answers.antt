@@ -1,19 +1,14 @@
 use Prim.Native.Nat.{◌<◌}
-use mathlib.Core.List.{List, [], ◌∷◌}
-use mathlib.Core.Path.{◌≡◌, refl, sym, ap, ◌∙◌}
+use mathlib.Core.List.{◌∷◌}
+use mathlib.Core.Path.{◌≡◌, refl, sym, ◌∙◌}
 use native.Mathlib.Omega.{arith}
 use lib.ListN.{length, length-set}
 use Rattle.rows.specs.Table.Special.{special_list}
 use Rattle.rows.specs.Inner.Line.{taken, ◌▸◌}
-use Rattle.records.proofs.Inverse.{named_all}
-use Rattle.lists.specs.Special.{entry_numbers, entry_of, numbers_of}
-use Rattle.lists.specs.declared.special.SpecialEntry.{SpecialEntry}
-use Rattle.lists.specs.declared.special.SpecialList.{SpecialList}
+use Rattle.lists.specs.Special.{entry_numbers, numbers_of}
 use Rattle.lists.proofs.Rowing.{flat, taking_more, taking_all}
+use Rattle.lists.proofs.special.Laws.{numbers_flat}
 use Rattle.lists.proofs.special.take_list.Goals as goal
-
-numbers_flat : (l : SpecialList) → length l.entries ≡ 4 → numbers_of l ≡ l.count ∷ flat entry_numbers l.entries
-numbers_flat l four = ap (λ (es : List SpecialEntry). l.count ∷ flat entry_numbers es) (named_all (entry_of [] 0) 4 l.entries four)
 
 pub loop-k-init : goal.loop-k-init
 loop-k-init c = (refl, refl, record { upto = omega arith; ready = c.at_most-head.ensures.ready; takes = taken })
