@@ -6,13 +6,14 @@ ghost use Rattle.rows.specs.Inner.Step.{Ready, Took, Drafted, Gave};
 ghost use Rattle.rows.specs.Inner.Line.{start, Taken, Given};
 ghost use Rattle.rows.specs.Table.Holder.{holder};
 ghost use Rattle.records.specs.Answer.{area_length, from};
-ghost use Rattle.holder.specs.Holder.{numbers_of, with_texts, holder_of, unread, holder_read, holder_written};
+ghost use Rattle.holder.specs.Holder.{profile_of, numbers_of, with_texts, holder_of, unread, holder_read, holder_written};
 ghost use Rattle.holder.specs.Inner.Steps.{block, ProfileTook, ProfileGave};
 
 use records::Refusal;
 use rows::{Cursor, Rule, When, margin, put, take};
+use std::array;
 
-#[derive(Clone, Copy)]
+#[derive(Clone, Copy, Debug, PartialEq, Eq)]
 pub struct Profile {
     pub bitmap: u32,
     pub network: u32,
@@ -20,7 +21,7 @@ pub struct Profile {
     pub date: u32,
 }
 
-#[derive(Clone, Copy)]
+#[derive(Clone, Copy, Debug, PartialEq, Eq)]
 pub struct Holder {
     pub bitmap: u32,
     pub name_bitmap: u32,
@@ -80,6 +81,19 @@ impl Profile {
         number: 0,
         date: 0,
     };
+
+    // The profile whose numbers stand from i on.
+    fn at(numbers: &[u32], i: usize) -> Profile
+        requires { i + 4 ≤ length numbers.now }
+        ensures { result ≡ profile_of i numbers.now }
+    {
+        Profile {
+            bitmap: numbers[i],
+            network: numbers[i + 1],
+            number: numbers[i + 2],
+            date: numbers[i + 3],
+        }
+    }
 }
 
 impl Holder {
@@ -221,30 +235,6 @@ impl Holder {
     ) -> Holder
         ensures { result ≡ with_texts numbers surname forename birth_place birth_name margin }
     {
-        let profile1 = Profile {
-            bitmap: numbers[82],
-            network: numbers[83],
-            number: numbers[84],
-            date: numbers[85],
-        };
-        let profile2 = Profile {
-            bitmap: numbers[86],
-            network: numbers[87],
-            number: numbers[88],
-            date: numbers[89],
-        };
-        let profile3 = Profile {
-            bitmap: numbers[90],
-            network: numbers[91],
-            number: numbers[92],
-            date: numbers[93],
-        };
-        let profile4 = Profile {
-            bitmap: numbers[94],
-            network: numbers[95],
-            number: numbers[96],
-            date: numbers[97],
-        };
         Holder {
             bitmap: numbers[0],
             name_bitmap: numbers[1],
@@ -258,7 +248,7 @@ impl Holder {
             country: numbers[79],
             company: numbers[80],
             profile_count: numbers[81],
-            profiles: [profile1, profile2, profile3, profile4],
+            profiles: array::from_fn(|k| Profile::at(&numbers, 82 + 4 * k)),
             data_bitmap: numbers[98],
             card_status: numbers[99],
             telepayment: numbers[100],

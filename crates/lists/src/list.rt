@@ -19,7 +19,7 @@ use rows::{Cursor, When, put, take};
 use std::array;
 
 // An entry: its elements are [0] network, [1] tariff (key, kind and priority), [2] pointer.
-#[derive(Clone, Copy)]
+#[derive(Clone, Copy, Debug, PartialEq, Eq)]
 pub struct Entry {
     pub bitmap: u32,
     pub network: u32,
@@ -30,7 +30,7 @@ pub struct Entry {
 }
 
 // The tally is that of the counted entries; a value made by reading and by the methods has it right.
-#[derive(Clone, Copy)]
+#[derive(Clone, Copy, Debug, PartialEq, Eq)]
 pub struct ContractList {
     pub count: u32,
     pub entries: [Entry; 8],

@@ -15,7 +15,7 @@ use rows::{Cursor, When, put, take};
 use std::array;
 
 // An entry: its elements are [0] network, [1] provider, [2] seriousness, [3] pointer.
-#[derive(Clone, Copy)]
+#[derive(Clone, Copy, Debug, PartialEq, Eq)]
 pub struct SpecialEntry {
     pub bitmap: u32,
     pub network: u32,
@@ -24,7 +24,7 @@ pub struct SpecialEntry {
     pub pointer: u32,
 }
 
-#[derive(Clone, Copy)]
+#[derive(Clone, Copy, Debug, PartialEq, Eq)]
 pub struct SpecialList {
     pub count: u32,
     pub entries: [SpecialEntry; 4],

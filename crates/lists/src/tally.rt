@@ -8,13 +8,13 @@ ghost use Rattle.lists.specs.Tally.{raised, lowered, one_more, one_less, entered
 use crate::list::{ContractList, Entry};
 
 // The positions of one kind.
-#[derive(Clone, Copy, PartialEq, Eq)]
+#[derive(Clone, Copy, Debug, PartialEq, Eq)]
 pub struct Positions {
     pub used: u32, // the pointers in use, bit pointer - 1
     pub spent: u32, // how many entries have priority 15
 }
 
-#[derive(Clone, Copy, PartialEq, Eq)]
+#[derive(Clone, Copy, Debug, PartialEq, Eq)]
 pub struct Tally {
     pub counter: Positions,
     pub plain: Positions,
