@@ -1,10 +1,10 @@
 -- A text's letters by name, so that the slots behind them can still be counted.
 use Prim.Native.Nat.{ℕ, zero, suc, ◌+◌, ◌≤◌}
-use mathlib.Core.List.{List, [], ◌∷◌, append-nil}
+use mathlib.Core.List.{List, [], ◌∷◌}
 use mathlib.Core.Path.{◌≡◌, refl, ap, ◌∙◌}
 use native.Mathlib.Omega.{arith}
-use lib.ListN.{length, get_or, replicate, take, drop, drop_of_length-le}
-use lib.Seq.{paste, drop-cons, take_all}
+use lib.ListN.{length, get_or, replicate, take, drop}
+use lib.Seq.{drop-cons}
 use Rattle.rows.specs.Inner.Step.{Took, Gave}
 use Rattle.rows.specs.Inner.Standing.{Standing}
 use Rattle.rows.specs.declared.When.{When}
@@ -51,35 +51,10 @@ holder_back h long counted =
 pub read_back : {h : Holder} → Spelled h → length h.profiles ≡ 4 → read_of h ≡ read_of (holder_of (numbers_of h) h.margin)
 read_back {h} long counted = rw (holder_back h long counted)
 
--- The numbers in their three parts, put one behind the other.
-pub placed_all : (vals : List ℕ) {x y z a b r : List ℕ}
-    → x ≡ from 0 36 vals
-    → y ≡ from 36 42 vals
-    → z ≡ from 78 33 vals
-    → a ≡ paste (replicate 111 0) 0 x (length x)
-    → b ≡ paste a 36 y (length y)
-    → r ≡ paste b 78 z (length z)
-    → r ≡ from 0 111 vals
-placed_all vals first second third a b r = rw (r, b, a, third, second, first)
-
 -- A part of some numbers, by name.
-part_named : (i n : ℕ) (vals : List ℕ) → i + n ≤ length vals → take n (drop i vals) ≡ from i n vals
+pub part_named : (i n : ℕ) (vals : List ℕ) → i + n ≤ length vals → take n (drop i vals) ≡ from i n vals
 part_named i zero vals h = refl
 part_named i (suc n) vals h = rw (drop-cons vals i 0 (omega arith), part_named (suc i) n vals (omega arith))
-
--- Put over as many, it is all that there is.
-pub placed_part : (i n : ℕ) (vals over : List ℕ) {t : List ℕ} → i + n ≤ length vals → length over ≡ n
-    → t ≡ paste over 0 (take n (drop i vals)) (length (take n (drop i vals)))
-    → t ≡ from i n vals
-placed_part i n vals over inside long put =
-    let count : length (take n (drop i vals)) ≡ n = rw (part_named i n vals inside) (length_named i n) in
-    let all : length over ≤ 0 + n = omega arith in
-    let none : drop (0 + n) over ≡ [] = drop_of_length-le over all in
-    put ∙ rw (count, none, append-nil, take_all n (take n (drop i vals)) (omega arith)) (part_named i n vals inside)
-  where
-    length_named : (i n : ℕ) → length (from i n vals) ≡ n
-    length_named i zero = refl
-    length_named i (suc n) = ap suc (length_named (suc i) n)
 
 -- With such texts and its margin a Holder is the one of its numbers.
 pub made_of : (vals margin : List ℕ) {surname forename place name : List ℕ} {h : Holder} → length margin ≡ 15

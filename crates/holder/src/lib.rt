@@ -2,18 +2,18 @@
 #![tactic(auto)]
 
 ghost use Rattle.std.specs.Prelude.{◌≡◌, [], ◌∷◌, true, ◌+◌, ◌≤◌, length};
-ghost use Rattle.std.proofs.Math.Seq.{paste};
 ghost use Rattle.rows.specs.Inner.Step.{Ready, Took, Drafted, Gave};
 ghost use Rattle.rows.specs.Inner.Line.{start, Taken, Given};
 ghost use Rattle.rows.specs.Table.Holder.{holder};
 ghost use Rattle.records.specs.Answer.{area_length, from};
-ghost use Rattle.holder.specs.Holder.{numbers_of, with_texts, holder_of, unread, holder_read, holder_written};
+ghost use Rattle.holder.specs.Holder.{profile_of, numbers_of, with_texts, holder_of, unread, holder_read, holder_written};
 ghost use Rattle.holder.specs.Inner.Steps.{block, ProfileTook, ProfileGave};
 
 use records::Refusal;
 use rows::{Cursor, Rule, When, margin, put, take};
+use std::array;
 
-#[derive(Clone, Copy)]
+#[derive(Clone, Copy, Debug, PartialEq, Eq)]
 pub struct Profile {
     pub bitmap: u32,
     pub network: u32,
@@ -21,7 +21,7 @@ pub struct Profile {
     pub date: u32,
 }
 
-#[derive(Clone, Copy)]
+#[derive(Clone, Copy, Debug, PartialEq, Eq)]
 pub struct Holder {
     pub bitmap: u32,
     pub name_bitmap: u32,
@@ -81,6 +81,19 @@ impl Profile {
         number: 0,
         date: 0,
     };
+
+    // The profile whose numbers stand from i on.
+    fn at(numbers: &[u32], i: usize) -> Profile
+        requires { i + 4 ≤ length numbers.now }
+        ensures { result ≡ profile_of i numbers.now }
+    {
+        Profile {
+            bitmap: numbers[i],
+            network: numbers[i + 1],
+            number: numbers[i + 2],
+            date: numbers[i + 3],
+        }
+    }
 }
 
 impl Holder {
@@ -120,9 +133,9 @@ impl Holder {
         ensures { result ≡ numbers_of self }
     {
         let mut numbers = [0u32; 111];
-        place(&mut numbers, 0, &self.name_numbers());
-        place(&mut numbers, 36, &self.birth_numbers());
-        place(&mut numbers, 78, &self.other_numbers());
+        numbers[..36].copy_from_slice(&self.name_numbers());
+        numbers[36..78].copy_from_slice(&self.birth_numbers());
+        numbers[78..].copy_from_slice(&self.other_numbers());
         numbers
     }
 
@@ -130,98 +143,24 @@ impl Holder {
     fn name_numbers(self) -> [u32; 36]
         ensures { result ≡ from 0 36 (numbers_of self) }
     {
-        let surname = self.surname;
-        let forename = self.forename;
-        [
-            self.bitmap,
-            self.name_bitmap,
-            surname[0],
-            surname[1],
-            surname[2],
-            surname[3],
-            surname[4],
-            surname[5],
-            surname[6],
-            surname[7],
-            surname[8],
-            surname[9],
-            surname[10],
-            surname[11],
-            surname[12],
-            surname[13],
-            surname[14],
-            surname[15],
-            surname[16],
-            forename[0],
-            forename[1],
-            forename[2],
-            forename[3],
-            forename[4],
-            forename[5],
-            forename[6],
-            forename[7],
-            forename[8],
-            forename[9],
-            forename[10],
-            forename[11],
-            forename[12],
-            forename[13],
-            forename[14],
-            forename[15],
-            forename[16],
-        ]
+        let mut numbers = [0u32; 36];
+        numbers[0] = self.bitmap;
+        numbers[1] = self.name_bitmap;
+        numbers[2..19].copy_from_slice(&self.surname);
+        numbers[19..].copy_from_slice(&self.forename);
+        numbers
     }
 
     // The birth's bitmap, date and place, and the birth name.
     fn birth_numbers(self) -> [u32; 42]
         ensures { result ≡ from 36 42 (numbers_of self) }
     {
-        let place = self.birth_place;
-        let name = self.birth_name;
-        [
-            self.birth_bitmap,
-            self.birth_date,
-            place[0],
-            place[1],
-            place[2],
-            place[3],
-            place[4],
-            place[5],
-            place[6],
-            place[7],
-            place[8],
-            place[9],
-            place[10],
-            place[11],
-            place[12],
-            place[13],
-            place[14],
-            place[15],
-            place[16],
-            place[17],
-            place[18],
-            place[19],
-            place[20],
-            place[21],
-            place[22],
-            name[0],
-            name[1],
-            name[2],
-            name[3],
-            name[4],
-            name[5],
-            name[6],
-            name[7],
-            name[8],
-            name[9],
-            name[10],
-            name[11],
-            name[12],
-            name[13],
-            name[14],
-            name[15],
-            name[16],
-        ]
+        let mut numbers = [0u32; 42];
+        numbers[0] = self.birth_bitmap;
+        numbers[1] = self.birth_date;
+        numbers[2..25].copy_from_slice(&self.birth_place);
+        numbers[25..].copy_from_slice(&self.birth_name);
+        numbers
     }
 
     // From the id on.
@@ -278,10 +217,10 @@ impl Holder {
         let mut forename = [0u32; 17];
         let mut birth_place = [0u32; 23];
         let mut birth_name = [0u32; 17];
-        place(&mut surname, 0, &numbers[2..19]);
-        place(&mut forename, 0, &numbers[19..36]);
-        place(&mut birth_place, 0, &numbers[38..61]);
-        place(&mut birth_name, 0, &numbers[61..78]);
+        surname.copy_from_slice(&numbers[2..19]);
+        forename.copy_from_slice(&numbers[19..36]);
+        birth_place.copy_from_slice(&numbers[38..61]);
+        birth_name.copy_from_slice(&numbers[61..78]);
         Holder::with_texts(numbers, surname, forename, birth_place, birth_name, margin)
     }
 
@@ -296,30 +235,6 @@ impl Holder {
     ) -> Holder
         ensures { result ≡ with_texts numbers surname forename birth_place birth_name margin }
     {
-        let profile1 = Profile {
-            bitmap: numbers[82],
-            network: numbers[83],
-            number: numbers[84],
-            date: numbers[85],
-        };
-        let profile2 = Profile {
-            bitmap: numbers[86],
-            network: numbers[87],
-            number: numbers[88],
-            date: numbers[89],
-        };
-        let profile3 = Profile {
-            bitmap: numbers[90],
-            network: numbers[91],
-            number: numbers[92],
-            date: numbers[93],
-        };
-        let profile4 = Profile {
-            bitmap: numbers[94],
-            network: numbers[95],
-            number: numbers[96],
-            date: numbers[97],
-        };
         Holder {
             bitmap: numbers[0],
             name_bitmap: numbers[1],
@@ -333,7 +248,7 @@ impl Holder {
             country: numbers[79],
             company: numbers[80],
             profile_count: numbers[81],
-            profiles: [profile1, profile2, profile3, profile4],
+            profiles: array::from_fn(|k| Profile::at(&numbers, 82 + 4 * k)),
             data_bitmap: numbers[98],
             card_status: numbers[99],
             telepayment: numbers[100],
@@ -352,32 +267,11 @@ impl Holder {
     }
 }
 
-// Puts a part of some numbers in its place among them.
-fn place(numbers: &mut [u32], at: usize, part: &[u32])
-    requires { at + length part.now ≤ length numbers.old }
-    ensures { numbers.new ≡ paste numbers.old at part.now (length part.now) }
-{
-    let mut i = 0;
-    while i < part.len() {
-        numbers[at + i] = part[i];
-        i += 1;
-    }
-}
-
 // An area is 1 to 4 records.
 pub fn is_area(n: usize) -> bool
     ensures { result ≡ area_length n }
 {
-    if n == 29 {
-        return true;
-    }
-    if n == 58 {
-        return true;
-    }
-    if n == 87 {
-        return true;
-    }
-    n == 116
+    matches!(n, 29 | 58 | 87 | 116)
 }
 
 fn take_person(words: &[u64], end: u32) -> Fields

@@ -38,6 +38,9 @@ length_recoded position code (e ∷ es) = ap suc (length_recoded (position - 1) 
 pub length_counted : (l : ContractList) → length l.entries ≡ 8 → length (counted l) ≡ min l.count 8
 length_counted l eight = rw (length-take, eight)
 
+pub few_counted : (l : ContractList) {es : List Entry} → length l.entries ≡ 8 → es ≡ counted l → length es ≤ 8
+few_counted l eight same = rw same (omega (arith, length_counted l eight))
+
 module _ (c position code : ℕ) (l : ContractList) where
   -- A position of a counted entry, and any other.
   pub at_position : 1 ≤ position → position ≤ length (counted l)

@@ -10,20 +10,21 @@ use lib.Dec.{eqb, ltb, leb}
 use lib.ListN.{length, get_or, set, take, length-append}
 use lib.Seq.{get_or-take, length-take-le, take-suc, take-suc-set, take_all}
 use borrow.Author.Tests.{lt-ltb, ltb-true, leb-true, le-leb, lt-leb}
+use Rattle.std.proofs.Common.{None}
 use Rattle.bits.specs.Bits.{bit}
 use Rattle.rows.specs.Row.{pick}
 use Rattle.rows.proofs.Margins.{both}
 use Rattle.lists.specs.List.{entry_of, entry_at, numbers_of, list_fault, fair}
 use Rattle.lists.specs.Entries.{counted, listing, recoded, recoded_at, with_priority, without, without_pointer, appended}
 use Rattle.lists.specs.Tally.{in_use, used_up, how_many, tally_of, same_tally, free_of, entered, revalued, at_pointer}
-use Rattle.lists.specs.Inner.Judging.{Recounts}
+use Rattle.lists.specs.Inner.Judging.{optional, Recounts}
 use Rattle.lists.specs.declared.list.Entry.{Entry}
 use Rattle.lists.specs.declared.list.ContractList.{ContractList}
 use Rattle.lists.specs.declared.list.Recount.{Recount}
 use Rattle.lists.specs.declared.rules.Judged.{Judged}
 use Rattle.lists.specs.declared.tally.Spent.{Spent}
 use Rattle.lists.specs.declared.tally.Tally.{Tally}
-use Rattle.lists.proofs.Judging.{Turned, judges_none, judges_more}
+use Rattle.lists.proofs.Judging.{Turned, judges_none, judges_next}
 use Rattle.lists.proofs.Tallying.{vacancies, free_count, tally_entered, tally_removed, tally_recoded, tally_counted, spent_few, spent_below, spent_more}
 use Rattle.lists.proofs.Entries.{length_counted, length_without, filled, counted_filled, filled_more}
 use Rattle.lists.proofs.list.Laws.{Fair, fault_list}
@@ -126,63 +127,58 @@ module _ (n c : ℕ) (l : ContractList) (even : Fair c l) where
         used_up_plain = rw even;
       }
 
--- The first counted entries of a list and one more.
-counted_more : (l : ContractList) → length l.entries ≡ 8 → (i : ℕ) (d : Entry) → i < length (counted l)
-    → take (i + 1) (counted l) ≡ take i (counted l) ++ (get_or l.entries i d ∷ [])
-counted_more l eight i d more =
-    let counts : i < l.count = omega (arith, length_counted l eight, more) in
-    let own : get_or (counted l) i d ≡ get_or l.entries i d = get_or-take l.count l.entries i d counts in
-    rw (add-one i, take-suc (counted l) i d more, own)
+-- The first of some entries and one more.
+take_more : (es : List Entry) (i : ℕ) (d : Entry) → i < length es → take (i + 1) es ≡ take i es ++ (get_or es i d ∷ [])
+take_more es i d more = rw (add-one i) (take-suc es i d more)
 
 -- A fresh tally, with an entry more and with all.
-module _ (c : ℕ) (l : ContractList) (i : ℕ) (t : Tally) (so : t ≡ tally_of c (take i (counted l))) where
-  pub tally_more : length l.entries ≡ 8 → (d : Entry) (u : Tally) → i < length (counted l)
-      → u ≡ at_pointer c (get_or l.entries i d).pointer (entered (get_or l.entries i d).pointer (get_or l.entries i d).priority) t
-      → u ≡ tally_of c (take (i + 1) (counted l))
-  tally_more eight d u more one =
-      let room : length (take i (counted l)) < 8 = omega (arith, length-take-le i (counted l) (omega arith), length_counted l eight) in
-      one ∙ rw (so, counted_more l eight i d more) (tally_entered c (take i (counted l)) (get_or l.entries i d) room)
+module _ (c : ℕ) (es : List Entry) (i : ℕ) (t : Tally) (so : t ≡ tally_of c (take i es)) where
+  pub tally_more : length es ≤ 8 → (d : Entry) (u : Tally) → i < length es
+      → u ≡ at_pointer c (get_or es i d).pointer (entered (get_or es i d).pointer (get_or es i d).priority) t
+      → u ≡ tally_of c (take (i + 1) es)
+  tally_more few d u more one =
+      let room : length (take i es) < 8 = omega (arith, length-take-le i es (omega arith)) in
+      one ∙ rw (so, take_more es i d more) (tally_entered c (take i es) (get_or es i d) room)
 
-  pub tally_all : length (counted l) ≤ i → t ≡ tally_of c (counted l)
-  tally_all all = rw (take_all i (counted l) all) at so
+  pub tally_all : length es ≤ i → t ≡ tally_of c es
+  tally_all all = rw (take_all i es all) at so
 
 -- A fresh count, and the rule, entry by entry.
-pub recount_none : (n c : ℕ) → Recounts n c [] (record { judged = record { used = 0; fault = 0 }; spent = record { all = 0; counter = 0 } })
+pub recount_none : (n c : ℕ) → Recounts n c [] (record { judged = record { used = 0; fault = None }; spent = record { all = 0; counter = 0 } })
 recount_none n c = record { judges = judges_none 3 n; spent = refl }
 
-module _ (n c : ℕ) (l : ContractList) (eight : length l.entries ≡ 8) (i : ℕ) (j : Judged) (s : Spent)
-    (so : Recounts n c (take i (counted l)) (record { judged = j; spent = s })) where
-  module _ (more : i < length (counted l)) where
-    long : length (take i (counted l)) ≡ i
-    long = length-take-le i (counted l) (omega arith)
+module _ (n c : ℕ) (es : List Entry) (i : ℕ) (j : Judged) (s : Spent) (so : Recounts n c (take i es) (record { judged = j; spent = s })) where
+  module _ (few : length es ≤ 8) (more : i < length es) where
+    long : length (take i es) ≡ i
+    long = length-take-le i es (omega arith)
 
     pub recount_few : (s.all < 8) × (s.counter < 8)
-    recount_few = rw so.spent (spent_below c (take i (counted l)) (omega (arith, long, length_counted l eight)))
+    recount_few = rw so.spent (spent_below c (take i es) (omega (arith, long)))
 
     pub recount_more : (d : Entry) (i' : Judged) (t : Spent)
-        → t ≡ record { all = s.all + bit (used_up (get_or l.entries i d)); counter = s.counter + bit (leb (get_or l.entries i d).pointer c && used_up (get_or l.entries i d)) }
-        → Turned 3 n j (i + 1) (get_or l.entries i d).bitmap (get_or l.entries i d).pointer i'
-        → Recounts n c (take (i + 1) (counted l)) (record { judged = i'; spent = t })
+        → t ≡ record { all = s.all + bit (used_up (get_or es i d)); counter = s.counter + bit (leb (get_or es i d).pointer c && used_up (get_or es i d)) }
+        → Turned 3 n j (i + 1) (get_or es i d).bitmap (get_or es i d).pointer i'
+        → Recounts n c (take (i + 1) es) (record { judged = i'; spent = t })
     recount_more d i' t one turned =
-        let next = counted_more l eight i d more in
+        let next = take_more es i d more in
         record {
-          judges = rw next (judges_more _ _ 3 n (take i (counted l)) (get_or l.entries i d) (i + 1) (rw long) so.judges turned);
-          spent = one ∙ rw (so.spent, next) (spent_more c (take i (counted l)) (get_or l.entries i d));
+          judges = judges_next _ _ 3 n es i d more so.judges turned;
+          spent = one ∙ rw (so.spent, next) (spent_more c (take i es) (get_or es i d));
         }
 
-  pub recount_all : length (counted l) ≤ i → Recounts n c (counted l) (record { judged = j; spent = s })
-  recount_all all = rw (take_all i (counted l) all) at so
+  pub recount_all : length es ≤ i → Recounts n c es (record { judged = j; spent = s })
+  recount_all all = rw (take_all i es all) at so
 
 -- The cursor after the rule and the tally, by such a count.
 module _ (n c : ℕ) (l : ContractList) (eight : length l.entries ≡ 8) (r : Recount) (so : Recounts n c (counted l) r) where
-  pub rule_held : r.judged.fault ≡ list_fault n (numbers_of l)
-  rule_held = so.judges.fault ∙ fault_list n l eight
+  pub rule_held : r.judged.fault ≡ optional (list_fault n (numbers_of l))
+  rule_held = so.judges.fault ∙ ap (λ (x : ℕ). optional x) (fault_list n l eight)
 
   pub recount_ready : r.spent.counter ≤ r.spent.all
   recount_ready = rw so.spent (spent_few c (counted l))
 
   -- What the tally is held to, where no entry is at fault.
-  pub tally_held : (t : Tally) → r.judged.fault ≡ 0
+  pub tally_held : (t : Tally) → r.judged.fault ≡ None
       → t ≡ record {
         counter = record { used = r.judged.used % 2 ^ c; spent = r.spent.counter };
         plain = record { used = r.judged.used - r.judged.used % 2 ^ c; spent = r.spent.all - r.spent.counter };

@@ -1,7 +1,7 @@
 -- The list rule by a mask of the pointers in use: one entry more.
 use Prim.Native.Nat.{ℕ, zero, suc, ◌+◌, ◌-◌, ◌/◌, ◌%◌, ◌^◌, ◌≤◌, ◌<◌}
 use mathlib.Core.List.{List, [], ◌∷◌, ◌++◌, map, append-nil, append_assoc, map-append}
-use mathlib.Core.Bool.{Bool, true, false, ◌&&◌, ◌||◌, or-false, or-true}
+use mathlib.Core.Bool.{Bool, true, false, ◌&&◌, ◌||◌, or-false, or-true, true≢false}
 use mathlib.Core.Path.{◌≡◌, refl, sym, ap, ◌∙◌}
 use native.Mathlib.Omega.{arith}
 use native.Mathlib.Numerals.{add-one}
@@ -9,11 +9,12 @@ use lib.Dec.{eqb, leb}
 use lib.ListN.{length, get_or, take, length-append, length-map}
 use lib.Seq.{length-take-le, take-suc}
 use borrow.Author.Tests.{eq-eqb, ne_eqb, leb-true}
+use Rattle.std.proofs.Common.{Option, Some, None, is_some}
 use Rattle.bits.specs.Bits.{odd}
 use Rattle.rows.specs.Row.{pick, among}
 use Rattle.rows.proofs.Margins.{both}
 use Rattle.lists.specs.Rules.{keeps, fault_after, first_at_fault}
-use Rattle.lists.specs.Inner.Judging.{Judges}
+use Rattle.lists.specs.Inner.Judging.{optional, Judges}
 use Rattle.lists.specs.declared.rules.Judged.{Judged}
 use Rattle.lists.proofs.Masks.{mask_bit, mask_more}
 
@@ -50,8 +51,24 @@ among_last q (m ∷ ps) p = go (eqb m q) (among_last q ps p)
     go true rest = refl
     go false rest = rest
 
+-- The first entry at fault, or none.
+pub is_none : (o : Option ℕ) → is_some o ≡ false → o ≡ None
+is_none None e = refl
+is_none (Some k) e = cc
+
+pub optional_none : (k : ℕ) → None ≡ optional k → k ≡ 0
+optional_none zero e = refl
+optional_none (suc k) e = cc
+
+pub optional_some : (k m : ℕ) → Some m ≡ optional k → (m ≡ k) × (k ≡ 0 → ⊥)
+optional_some zero m e = absurd (cc)
+optional_some (suc k) m e = (cc, λ z. omega arith)
+
+pub fault_none : {k : ℕ} {o : Option ℕ} → o ≡ optional k → k ≡ 0 → o ≡ None
+fault_none same none = rw none at same
+
 -- Before the first entry.
-pub judges_none : (full limit : ℕ) → Judges full limit [] [] (record { used = 0; fault = 0 })
+pub judges_none : (full limit : ℕ) → Judges full limit [] [] (record { used = 0; fault = None })
 judges_none full limit = record { same = refl; fault = refl; used = λ clear. refl }
 
 -- What the test of an entry's elements and pointer says of the pointer.
@@ -65,35 +82,36 @@ module _ (full limit : ℕ) (bs ps : List ℕ) (j : Judged) (so_far : Judges ful
   same_more : length (bs ++ (b ∷ [])) ≡ length (ps ++ (p ∷ []))
   same_more = simp length-append (omega arith)
 
-  more : (t : Bool) → keeps full limit ps b p ≡ t → j.fault ≡ 0
+  more : (t : Bool) → keeps full limit ps b p ≡ t → j.fault ≡ None
       → pick t 0 k ≡ first_at_fault full limit (bs ++ (b ∷ [])) (ps ++ (p ∷ []))
   more t so clear =
-      let none : first_at_fault full limit bs ps ≡ 0 = sym so_far.fault ∙ clear in
+      let none : first_at_fault full limit bs ps ≡ 0 = optional_none _ (sym clear ∙ so_far.fault) in
       sym (fault_more full limit [] bs ps b p so_far.same ∙ rw (none, so, counted))
 
-  pub judges_faulty : (j.fault ≡ 0 → ⊥) → Judges full limit (bs ++ (b ∷ [])) (ps ++ (p ∷ [])) j
+  pub judges_faulty : is_some j.fault ≡ true → Judges full limit (bs ++ (b ∷ [])) (ps ++ (p ∷ [])) j
   judges_faulty why =
-      let some : first_at_fault full limit bs ps ≡ 0 → ⊥ = λ e. why (so_far.fault ∙ e) in
+      let some : first_at_fault full limit bs ps ≡ 0 → ⊥ = λ e. let none = fault_none so_far.fault e in true≢false (sym (rw none at why)) in
       record {
         same = same_more;
-        fault = so_far.fault ∙ sym (fault_more full limit [] bs ps b p so_far.same ∙ rw (ne_eqb _ _ some));
-        used = λ clear. absurd (why clear);
+        fault = so_far.fault ∙ ap (λ (x : ℕ). optional x) (sym (fault_more full limit [] bs ps b p so_far.same ∙ rw (ne_eqb _ _ some)));
+        used = λ clear. absurd (true≢false (sym (rw clear at why)));
       }
 
-  pub judges_broken : j.fault ≡ 0 → keeps full limit ps b p ≡ false
-      → Judges full limit (bs ++ (b ∷ [])) (ps ++ (p ∷ [])) (record { used = j.used; fault = k })
+  pub judges_broken : j.fault ≡ None → keeps full limit ps b p ≡ false
+      → Judges full limit (bs ++ (b ∷ [])) (ps ++ (p ∷ [])) (record { used = j.used; fault = Some k })
   judges_broken clear broken =
+      let own : Some k ≡ optional k = rw counted in
       record {
         same = same_more;
-        fault = more false broken clear;
-        used = λ none. absurd (omega arith);
+        fault = own ∙ ap (λ (x : ℕ). optional x) (more false broken clear);
+        used = λ none. absurd (cc);
       }
 
   -- An entry does not keep the rule where it lacks an element or its pointer is outside the limit;
   pub keeps_not : eqb (b / 2) full && leb 1 p && leb p limit ≡ false → keeps full limit ps b p ≡ false
   keeps_not h = rw h
 
-  module _ (few : limit ≤ 8) (clear : j.fault ≡ 0) (h : eqb (b / 2) full && leb 1 p && leb p limit ≡ true) where
+  module _ (few : limit ≤ 8) (clear : j.fault ≡ None) (h : eqb (b / 2) full && leb 1 p && leb p limit ≡ true) where
     inside : (1 ≤ p) × (p ≤ 8)
     inside = let (low, high) = tested b full p limit h in (low, omega arith)
 
@@ -105,13 +123,13 @@ module _ (full limit : ℕ) (bs ps : List ℕ) (j : Judged) (so_far : Judges ful
     keeps_taken on = let again : among p ps ≡ true = sym own_bit ∙ eq-eqb _ _ on in rw (h, again)
 
     pub judges_kept : (u : ℕ) → u ≡ j.used + 2 ^ (p - 1) → j.used / 2 ^ (p - 1) % 2 ≡ 0
-        → Judges full limit (bs ++ (b ∷ [])) (ps ++ (p ∷ [])) (record { used = u; fault = 0 })
+        → Judges full limit (bs ++ (b ∷ [])) (ps ++ (p ∷ [])) (record { used = u; fault = None })
     judges_kept u one off =
         let unused : among p ps ≡ false = sym own_bit ∙ rw off in
         let now : among p (ps ++ (p ∷ [])) ≡ true = rw (among_last p ps p, eq-eqb p p refl) (or-true (among p ps)) in
         record {
           same = same_more;
-          fault = more true (rw (h, unused)) clear;
+          fault = ap (λ (x : ℕ). optional x) (more true (rw (h, unused)) clear);
           used = λ _.
               one
               ∙ rw (so_far.used clear)
@@ -133,16 +151,14 @@ module _ {A : Type 0} (f g : A → ℕ) (full limit : ℕ) {j i : Judged} where
       rw (map-append f es (e ∷ []), map-append g es (e ∷ []))
       (turned (map f es) (map g es) so_far (rw (length-map es g) (omega arith)))
 
--- The same of two columns of numbers.
-pub judges_turn : (bitmaps pointers : List ℕ) (full limit k : ℕ) {j i : Judged} → length bitmaps ≡ length pointers → k < length bitmaps
-    → Judges full limit (take k bitmaps) (take k pointers) j
-    → Turned full limit j (k + 1) (get_or bitmaps k 0) (get_or pointers k 0) i
-    → Judges full limit (take (k + 1) bitmaps) (take (k + 1) pointers) i
-judges_turn bitmaps pointers full limit k same inside so_far turned =
-    let within : k < length pointers = omega arith in
-    let long : length (take k pointers) ≡ k = length-take-le k pointers (omega arith) in
-    rw (add-one k, take-suc bitmaps k 0 inside, take-suc pointers k 0 within)
-    (turned (take k bitmaps) (take k pointers) so_far (omega arith))
+  pub judges_next : (es : List A) (k : ℕ) (d : A) → k < length es
+      → Judges full limit (map f (take k es)) (map g (take k es)) j
+      → Turned full limit j (k + 1) (f (get_or es k d)) (g (get_or es k d)) i
+      → Judges full limit (map f (take (k + 1) es)) (map g (take (k + 1) es)) i
+  judges_next es k d inside so_far turned =
+      let long : length (take k es) ≡ k = length-take-le k es (omega arith) in
+      let next : take (k + 1) es ≡ take k es ++ (get_or es k d ∷ []) = rw (add-one k) (take-suc es k d inside) in
+      rw next (judges_more (take k es) (get_or es k d) (k + 1) (rw long) so_far turned)
 
 pub take-map : {A B : Type 0} (f : A → B) (k : ℕ) (l : List A) → take k (map f l) ≡ map f (take k l)
 take-map f zero l = refl

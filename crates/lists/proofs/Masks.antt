@@ -7,6 +7,7 @@ use native.Mathlib.Nat.{pow-succ', zero-mod}
 use lib.Dec.{eqb, leb}
 use lib.Pow.{shr-shr, shl_exact, mod-pow-add}
 use borrow.Author.Tests.{eqb-true, eqb-false, le-leb, lt-leb, leb-true}
+use Rattle.std.specs.Int.{from_bool}
 use Rattle.bits.specs.Bits.{bit, odd}
 use Rattle.rows.specs.Row.{pick}
 use Rattle.rows.proofs.Margins.{both}
@@ -36,10 +37,14 @@ shifted p small =
     let own : 1 * 2 ^ p ≡ 2 ^ p = omega arith in
     shl_exact {a = 1} 1 p 32 (omega arith) (omega arith) ∙ own
 
--- A bit is at most 1.
+-- A bit is at most 1, and the number of a test.
 pub bit_most : (t : Bool) → bit t ≤ 1
 bit_most true = omega arith
 bit_most false = omega arith
+
+pub from_bit : (t : Bool) → from_bool t ≡ bit t
+from_bit true = refl
+from_bit false = refl
 
 -- A bit of a mask is its pointer's test.
 mask_get : (n k p : ℕ) (f : ℕ → Bool) → k < n → odd (mask n p f / 2 ^ k) ≡ f (p + k)

@@ -5,8 +5,8 @@ use mathlib.Core.List.{List, [], ◌∷◌, ◌++◌, append-nil, append_assoc}
 use mathlib.Core.Path.{◌≡◌, refl, sym, ap, ◌∙◌}
 use native.Mathlib.Omega.{arith}
 use native.Mathlib.Numerals.{add-one}
-use lib.ListN.{length, set, take, length-append, length-set}
-use lib.Seq.{length-take-le, take_all, take-suc-set}
+use lib.ListN.{length, get_or, set, take, drop, length-append, length-set}
+use lib.Seq.{length-take-le, take_all, take-suc, take-suc-set, take_at, drop_at, drop-drop}
 use Rattle.rows.specs.Row.{Row}
 use Rattle.rows.specs.Inner.Step.{Ready}
 use Rattle.rows.specs.Inner.Line.{Takes}
@@ -61,6 +61,24 @@ module _ {E : Type 0} (numbers : E → List ℕ) where
   pub seen_more : (count : ℕ) (es ds : List E) (e : E) → ds ≡ es ++ (e ∷ [])
       → (count ∷ flat numbers es) ++ numbers e ≡ count ∷ flat numbers ds
   seen_more count es ds e more = rw more (ap (λ (ns : List ℕ). count ∷ ns) (sym (flat_append es (e ∷ []) ∙ rw (flat_one e))))
+
+  -- The numbers of an entry more, put in their place over zeros.
+  pub laid_more : (size : ℕ) → ((e : E) → length (numbers e) ≡ size) → (count : ℕ) (es : List E) (k : ℕ) (d : E) (zeros : List ℕ) {xs mid : List ℕ}
+      → k < length es
+      → 1 + size * k + size ≡ 1 + size * (k + 1)
+      → xs ≡ (count ∷ flat numbers (take k es)) ++ drop (1 + size * k) zeros
+      → mid ≡ numbers (get_or es k d)
+      → take (1 + size * k) xs ++ (mid ++ drop size (drop (1 + size * k) xs)) ≡ (count ∷ flat numbers (take (k + 1) es)) ++ drop (1 + size * (k + 1)) zeros
+  laid_more size sized count es k d zeros inside up laid own =
+      let front : List ℕ = count ∷ flat numbers (take k es) in
+      let rest : List ℕ = drop (1 + size * k) zeros in
+      let long : length front ≡ 1 + size * k = seen_long size sized count es k (omega arith) in
+      let next : take (k + 1) es ≡ take k es ++ (get_or es k d ∷ []) = rw (add-one k) (take-suc es k d inside) in
+      let all = seen_more count (take k es) (take (k + 1) es) (get_or es k d) next in
+      rw (laid, take_at front rest (1 + size * k) long, drop_at front rest (1 + size * k) long, own)
+      (sym (append_assoc front (numbers (get_or es k d)) (drop size rest))
+      ∙ ap (λ (l : List ℕ). l ++ drop size rest) all
+      ∙ ap (λ (l : List ℕ). (count ∷ flat numbers (take (k + 1) es)) ++ l) (drop-drop size (1 + size * k) zeros ∙ rw up))
 
 -- What a loop that takes every entry has come to before entry k, from the count and the cursor b on.
 pub record Taking {E : Type 0} (entry : ℕ → List Row) (numbers : E → List ℕ) (words : List ℕ) (count : ℕ) (b : Standing) (es : List E) (c : Standing) (k : ℕ) : Type 0 where

@@ -5,7 +5,6 @@ ghost use Rattle.rows.specs.Inner.Line.{start, Puts};
 ghost use Rattle.rows.specs.Table.BestContracts.{entry, contract_list};
 ghost use Rattle.lists.specs.Inner.Steps.{obeyed, tallied, EntryTook, RestTook, EntryGave};
 ghost use Rattle.lists.specs.Inner.Judging.{Recounts};
-ghost use Rattle.bits.specs.Bits.{bit};
 ghost use Rattle.lists.specs.List.{entry_numbers, entry_of, numbers_of, list_of, outside, list_fault, list_read, list_written, no_list, fair};
 ghost use Rattle.lists.specs.Entries.{counted, with_priority, appended, without_pointer};
 ghost use Rattle.lists.specs.Tally.{used_up, tally_of, free_of};
@@ -17,9 +16,10 @@ use crate::tally::{Spent, Tally};
 use records::{BITS, BYTES, Refusal};
 use rows::take::ListTariff;
 use rows::{Cursor, When, put, take};
+use std::array;
 
 // An entry: its elements are [0] network, [1] tariff (key, kind and priority), [2] pointer.
-#[derive(Clone, Copy)]
+#[derive(Clone, Copy, Debug, PartialEq, Eq)]
 pub struct Entry {
     pub bitmap: u32,
     pub network: u32,
@@ -30,7 +30,7 @@ pub struct Entry {
 }
 
 // The tally is that of the counted entries; a value made by reading and by the methods has it right.
-#[derive(Clone, Copy)]
+#[derive(Clone, Copy, Debug, PartialEq, Eq)]
 pub struct ContractList {
     pub count: u32,
     pub entries: [Entry; 8],
@@ -121,10 +121,23 @@ impl Entry {
         }
     }
 
+    fn numbers(self) -> [u32; 6]
+        ensures { result ≡ entry_numbers self }
+    {
+        [
+            self.bitmap,
+            self.network,
+            self.key,
+            self.kind,
+            self.priority,
+            self.pointer,
+        ]
+    }
+
     // The entry whose numbers stand from i on.
-    fn at(numbers: [u32; 49], i: usize) -> Entry
-        requires { i ≤ 43 }
-        ensures { result ≡ entry_of numbers i }
+    fn at(numbers: &[u32], i: usize) -> Entry
+        requires { i + 6 ≤ length numbers.now }
+        ensures { result ≡ entry_of numbers.now i }
     {
         Entry {
             bitmap: numbers[i],
@@ -136,14 +149,10 @@ impl Entry {
         }
     }
 
-    // 1 where it is used up, else 0.
-    fn used_up(self) -> u32
-        ensures { result ≡ bit (used_up self) }
+    fn used_up(self) -> bool
+        ensures { result ≡ used_up self }
     {
-        if self.priority == Entry::ERASABLE {
-            return 1;
-        }
-        0
+        self.priority == Entry::ERASABLE
     }
 }
 
@@ -164,87 +173,25 @@ impl ContractList {
     pub fn numbers(self) -> [u32; 49]
         ensures { result ≡ numbers_of self }
     {
-        let es = self.entries;
-        let first = es[0];
-        let second = es[1];
-        let third = es[2];
-        let fourth = es[3];
-        let fifth = es[4];
-        let sixth = es[5];
-        let seventh = es[6];
-        let eighth = es[7];
-        [
-            self.count,
-            first.bitmap,
-            first.network,
-            first.key,
-            first.kind,
-            first.priority,
-            first.pointer,
-            second.bitmap,
-            second.network,
-            second.key,
-            second.kind,
-            second.priority,
-            second.pointer,
-            third.bitmap,
-            third.network,
-            third.key,
-            third.kind,
-            third.priority,
-            third.pointer,
-            fourth.bitmap,
-            fourth.network,
-            fourth.key,
-            fourth.kind,
-            fourth.priority,
-            fourth.pointer,
-            fifth.bitmap,
-            fifth.network,
-            fifth.key,
-            fifth.kind,
-            fifth.priority,
-            fifth.pointer,
-            sixth.bitmap,
-            sixth.network,
-            sixth.key,
-            sixth.kind,
-            sixth.priority,
-            sixth.pointer,
-            seventh.bitmap,
-            seventh.network,
-            seventh.key,
-            seventh.kind,
-            seventh.priority,
-            seventh.pointer,
-            eighth.bitmap,
-            eighth.network,
-            eighth.key,
-            eighth.kind,
-            eighth.priority,
-            eighth.pointer,
-        ]
+        let mut numbers = [0u32; 49];
+        numbers[0] = self.count;
+        for (k, entry) in self.entries.iter().enumerate() {
+            let at = 1 + 6 * k;
+            numbers[at..at + 6].copy_from_slice(&entry.numbers());
+        }
+        numbers
     }
 
     // The list of such numbers, with the tally of its counted entries.
     pub fn of(c: u32, numbers: [u32; 49]) -> ContractList
         ensures { result ≡ list_of c numbers }
     {
-        let first = Entry::at(numbers, 1);
-        let second = Entry::at(numbers, 7);
-        let third = Entry::at(numbers, 13);
-        let fourth = Entry::at(numbers, 19);
-        let fifth = Entry::at(numbers, 25);
-        let sixth = Entry::at(numbers, 31);
-        let seventh = Entry::at(numbers, 37);
-        let eighth = Entry::at(numbers, 43);
         let mut list = ContractList {
             count: numbers[0],
-            entries: [first, second, third, fourth, fifth, sixth, seventh, eighth],
+            entries: array::from_fn(|k| Entry::at(&numbers, 1 + 6 * k)),
             tally: Tally::NONE,
         };
-        let tally = list.fresh_tally(c);
-        list.tally = tally;
+        list.tally = list.fresh_tally(c);
         list
     }
 
@@ -252,13 +199,9 @@ impl ContractList {
     fn fresh_tally(self, c: u32) -> Tally
         ensures { result ≡ tally_of c (counted self) }
     {
-        let n = self.len();
         let mut tally = Tally::NONE;
-        let mut i = 0;
-        while i < n {
-            let entry = self.entries[i];
+        for entry in self.counted() {
             tally = tally.with(c, entry.pointer, entry.priority);
-            i += 1;
         }
         tally
     }
@@ -303,23 +246,20 @@ impl ContractList {
         let n = self.len();
         let mut gone = 0;
         let mut left = 0;
-        let mut i = 0;
-        while i < n {
+        for i in 0..n {
             let entry = self.entries[i];
             if entry.pointer != pointer {
                 self.entries[left] = entry;
                 left += 1;
             } else {
-                gone += entry.used_up();
+                gone += u32::from(entry.used_up());
             }
-            i += 1;
         }
         let tally = self.tally;
         self.tally = tally.without(c, pointer, gone);
         self.count = left as u32;
-        while left < 8 {
-            self.entries[left] = Entry::NONE;
-            left += 1;
+        for k in left..8 {
+            self.entries[k] = Entry::NONE;
         }
         self
     }
@@ -329,15 +269,11 @@ impl ContractList {
         requires { n ≤ 8 }
         ensures { Recounts n c (counted self) result }
     {
-        let len = self.len();
         let mut judged = Judged::NONE;
         let mut spent = Spent::NONE;
-        let mut i = 0;
-        while i < len {
-            let entry = self.entries[i];
-            i += 1;
+        for (i, entry) in self.counted().iter().enumerate() {
             spent = spent.with(c, entry.pointer, entry.priority);
-            judged = judged.with(i as u32, entry.bitmap, entry.pointer, Entry::FULL, n);
+            judged = judged.with(i as u32 + 1, entry.bitmap, entry.pointer, Entry::FULL, n);
         }
         Recount { judged, spent }
     }
@@ -376,10 +312,14 @@ impl ContractList {
     pub fn len(self) -> usize
         ensures { result ≡ length (counted self) }
     {
-        if self.count < ContractList::MOST {
-            return self.count as usize;
-        }
-        8
+        self.count.min(ContractList::MOST) as usize
+    }
+
+    fn counted(&self) -> &[Entry]
+        ensures { result.now ≡ counted self.now }
+    {
+        let n = self.len();
+        &self.entries[..n]
     }
 }
 
@@ -436,8 +376,7 @@ pub fn read(bytes: &[u8], n: u32, c: u32) -> ListRead
     let mut judged = Judged::NONE;
     let mut spent = Spent::NONE;
     let mut last = head;
-    let mut k = 0;
-    while k < count {
+    for k in 0..count {
         let taken = take_entry(&words, last, count, k);
         let entry = taken.entry;
         last = taken.last;
@@ -445,9 +384,8 @@ pub fn read(bytes: &[u8], n: u32, c: u32) -> ListRead
             return refused(Refusal::met(last));
         }
         list.entries[k as usize] = entry;
-        k += 1;
         spent = spent.with(c, entry.pointer, entry.priority);
-        judged = judged.with(k, entry.bitmap, entry.pointer, Entry::FULL, n);
+        judged = judged.with(k + 1, entry.bitmap, entry.pointer, Entry::FULL, n);
     }
     let end = rules::obeyed(take::end(&words, BITS, last), judged.fault);
     if end.why != 0 {
@@ -563,8 +501,8 @@ fn held(end: Cursor, list: ContractList, n: u32, c: u32) -> Cursor
     if ruled.why != 0 {
         return ruled;
     }
-    let tally = list.tally;
-    rules::fair(ruled, tally.equals(spent.tally(c, judged.used)))
+    let fresh = spent.tally(c, judged.used);
+    rules::fair(ruled, list.tally == fresh)
 }
 
 fn put_entry(draft: &mut [u64], c: Cursor, count: u32, k: u32, e: Entry) -> Cursor
@@ -611,7 +549,6 @@ fn put_list(draft: &mut [u64], n: u32, list: ContractList) -> Cursor
     ensures { Puts 232 (numbers_of list) (contract_list n) [] draft.old start (numbers_of list) draft.new result }
 {
     let count = list.count;
-    let es = list.entries;
     let head = put::at_most(
         draft,
         BITS,
@@ -622,10 +559,8 @@ fn put_list(draft: &mut [u64], n: u32, list: ContractList) -> Cursor
         count,
     );
     let mut c = head;
-    let mut k = 0;
-    while k < 8 {
-        c = put_entry(draft, c, count, k as u32, es[k]);
-        k += 1;
+    for (k, entry) in list.entries.iter().enumerate() {
+        c = put_entry(draft, c, count, k as u32, *entry);
     }
     c
 }

@@ -1,8 +1,7 @@
 // The rule of both lists: every element but the network present, pointers distinct and within their limit, else 6.
-ghost use Rattle.std.specs.Prelude.{◌≡◌, List, [], ◌∷◌, ◌++◌, ℕ, suc, ◌≤◌, length, take};
-ghost use Rattle.lists.specs.Rules.{first_at_fault};
+ghost use Rattle.std.specs.Prelude.{◌≡◌, List, [], ◌∷◌, ◌++◌, ℕ, suc, ◌≤◌, length};
 ghost use Rattle.lists.specs.Inner.Steps.{obeyed, tallied};
-ghost use Rattle.lists.specs.Inner.Judging.{Judges};
+ghost use Rattle.lists.specs.Inner.Judging.{optional, Judges};
 
 use rows::Cursor;
 
@@ -13,18 +12,21 @@ pub const COUNT_BITS: u32 = 4;
 #[derive(Clone, Copy)]
 pub struct Judged {
     pub used: u32, // their pointers, bit pointer - 1
-    pub fault: u32, // the number, from 1, of the first entry that does not keep the rule, or 0
+    pub fault: Option<u32>, // the number, from 1, of the first entry that does not keep the rule
 }
 
 impl Judged {
-    pub const NONE: Judged = Judged { used: 0, fault: 0 };
+    pub const NONE: Judged = Judged {
+        used: 0,
+        fault: None,
+    };
 
     // With entry k, counted from 1; pointers are from 1 to a limit.
     pub fn with(self, k: u32, bitmap: u32, pointer: u32, full: u32, limit: u32) -> Judged
         requires { limit ≤ 8 }
         ensures { (bs ps : List ℕ) → Judges full limit bs ps self → k ≡ suc (length ps) → Judges full limit (bs ++ (bitmap ∷ [])) (ps ++ (pointer ∷ [])) result }
     {
-        if self.fault != 0 {
+        if self.fault.is_some() {
             return self;
         }
         if (bitmap / 2 == full) & (1 <= pointer) & (pointer <= limit) {
@@ -32,50 +34,32 @@ impl Judged {
             if (self.used >> place) % 2 == 0 {
                 return Judged {
                     used: self.used + (1u32 << place),
-                    fault: 0,
+                    fault: None,
                 };
             }
         }
         Judged {
             used: self.used,
-            fault: k,
+            fault: Some(k),
         }
     }
-}
-
-// The number, from 1, of the first of the counted entries that does not keep the rule, or 0.
-pub fn first_at_fault(bitmaps: &[u32], pointers: &[u32], count: u32, full: u32, limit: u32) -> u32
-    requires { (length bitmaps.now ≡ length pointers.now) × (limit ≤ 8) }
-    ensures { result ≡ first_at_fault full limit (take count bitmaps.now) (take count pointers.now) }
-{
-    let n = count as usize;
-    let mut judged = Judged::NONE;
-    let mut k = 0;
-    while k < bitmaps.len() {
-        if k == n {
-            return judged.fault;
-        }
-        judged = judged.with(k as u32 + 1, bitmaps[k], pointers[k], full, limit);
-        k += 1;
-    }
-    judged.fault
 }
 
 // The cursor after the rule: 6 at the entry at fault, where nothing else was refused.
-pub fn obeyed(c: Cursor, fault: u32) -> Cursor
-    ensures { result ≡ obeyed c fault }
+pub fn obeyed(c: Cursor, fault: Option<u32>) -> Cursor
+    ensures { (k : ℕ) → fault ≡ optional k → result ≡ obeyed c k }
 {
     if c.why != 0 {
         return c;
     }
-    if fault == 0 {
-        return c;
-    }
-    Cursor {
-        at: fault,
-        why: 6,
-        field: 0,
-        number: 0,
+    match fault {
+        None => c,
+        Some(k) => Cursor {
+            at: k,
+            why: 6,
+            field: 0,
+            number: 0,
+        },
     }
 }
 

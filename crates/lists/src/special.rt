@@ -1,19 +1,21 @@
 // Special event list.
-ghost use Rattle.std.specs.Prelude.{◌≡◌, [], ◌+◌, ◌*◌, ◌≤◌, length};
+ghost use Rattle.std.specs.Prelude.{◌≡◌, [], ◌+◌, ◌*◌, ◌≤◌, length, take};
 ghost use Rattle.rows.specs.Inner.Step.{Ready, Drafted};
 ghost use Rattle.rows.specs.Inner.Line.{start, Taken, Puts};
 ghost use Rattle.rows.specs.Table.Special.{entry, special_list};
 ghost use Rattle.records.specs.Answer.{Written};
 ghost use Rattle.lists.specs.Inner.Steps.{EntryTook, EntryGave};
+ghost use Rattle.lists.specs.Inner.Judging.{optional};
 ghost use Rattle.lists.specs.Special.{entry_numbers, entry_of, numbers_of, special_of, special_fault, special_read, special_written, no_special};
 
 use crate::rules;
-use crate::rules::COUNT_BITS;
+use crate::rules::{COUNT_BITS, Judged};
 use records::{BITS, BYTES, Refusal};
 use rows::{Cursor, When, put, take};
+use std::array;
 
 // An entry: its elements are [0] network, [1] provider, [2] seriousness, [3] pointer.
-#[derive(Clone, Copy)]
+#[derive(Clone, Copy, Debug, PartialEq, Eq)]
 pub struct SpecialEntry {
     pub bitmap: u32,
     pub network: u32,
@@ -22,7 +24,7 @@ pub struct SpecialEntry {
     pub pointer: u32,
 }
 
-#[derive(Clone, Copy)]
+#[derive(Clone, Copy, Debug, PartialEq, Eq)]
 pub struct SpecialList {
     pub count: u32,
     pub entries: [SpecialEntry; 4],
@@ -46,10 +48,22 @@ impl SpecialEntry {
         pointer: 0,
     };
 
+    fn numbers(self) -> [u32; 5]
+        ensures { result ≡ entry_numbers self }
+    {
+        [
+            self.bitmap,
+            self.network,
+            self.provider,
+            self.seriousness,
+            self.pointer,
+        ]
+    }
+
     // The entry whose numbers stand from i on.
-    fn at(numbers: [u32; 21], i: usize) -> SpecialEntry
-        requires { i ≤ 16 }
-        ensures { result ≡ entry_of numbers i }
+    fn at(numbers: &[u32], i: usize) -> SpecialEntry
+        requires { i + 5 ≤ length numbers.now }
+        ensures { result ≡ entry_of numbers.now i }
     {
         SpecialEntry {
             bitmap: numbers[i],
@@ -74,47 +88,29 @@ impl SpecialList {
     pub fn numbers(self) -> [u32; 21]
         ensures { result ≡ numbers_of self }
     {
-        let es = self.entries;
-        let first = es[0];
-        let second = es[1];
-        let third = es[2];
-        let fourth = es[3];
-        [
-            self.count,
-            first.bitmap,
-            first.network,
-            first.provider,
-            first.seriousness,
-            first.pointer,
-            second.bitmap,
-            second.network,
-            second.provider,
-            second.seriousness,
-            second.pointer,
-            third.bitmap,
-            third.network,
-            third.provider,
-            third.seriousness,
-            third.pointer,
-            fourth.bitmap,
-            fourth.network,
-            fourth.provider,
-            fourth.seriousness,
-            fourth.pointer,
-        ]
+        let mut numbers = [0u32; 21];
+        numbers[0] = self.count;
+        for (k, entry) in self.entries.iter().enumerate() {
+            let at = 1 + 5 * k;
+            numbers[at..at + 5].copy_from_slice(&entry.numbers());
+        }
+        numbers
     }
 
     pub fn of(numbers: [u32; 21]) -> SpecialList
         ensures { result ≡ special_of numbers }
     {
-        let first = SpecialEntry::at(numbers, 1);
-        let second = SpecialEntry::at(numbers, 6);
-        let third = SpecialEntry::at(numbers, 11);
-        let fourth = SpecialEntry::at(numbers, 16);
         SpecialList {
             count: numbers[0],
-            entries: [first, second, third, fourth],
+            entries: array::from_fn(|k| SpecialEntry::at(&numbers, 1 + 5 * k)),
         }
+    }
+
+    fn counted(&self) -> &[SpecialEntry]
+        ensures { result.now ≡ take self.now.count self.now.entries }
+    {
+        let n = self.count.min(SpecialList::MOST) as usize;
+        &self.entries[..n]
     }
 }
 
@@ -198,26 +194,25 @@ fn take_list(words: &[u64]) -> ListTaken
     let mut list = SpecialList::NONE;
     list.count = count;
     let mut last = head;
-    let mut k = 0;
-    while k < 4 {
+    for k in 0..4 {
         let taken = take_entry(words, last, count, k as u32);
         let entry = taken.entry;
         last = taken.last;
         list.entries[k] = entry;
-        k += 1;
     }
     ListTaken { list, last }
 }
 
-// The number of the first entry that breaks the list rule, or 0.
-fn at_fault(list: SpecialList, s: u32) -> u32
+// The number, from 1, of the first of the counted entries that breaks the list rule.
+fn at_fault(list: SpecialList, s: u32) -> Option<u32>
     requires { s ≤ 8 }
-    ensures { result ≡ special_fault s (numbers_of list) }
+    ensures { result ≡ optional (special_fault s (numbers_of list)) }
 {
-    let es = list.entries;
-    let bitmaps = [es[0].bitmap, es[1].bitmap, es[2].bitmap, es[3].bitmap];
-    let pointers = [es[0].pointer, es[1].pointer, es[2].pointer, es[3].pointer];
-    rules::first_at_fault(&bitmaps, &pointers, list.count, SpecialEntry::FULL, s)
+    let mut judged = Judged::NONE;
+    for (i, entry) in list.counted().iter().enumerate() {
+        judged = judged.with(i as u32 + 1, entry.bitmap, entry.pointer, SpecialEntry::FULL, s);
+    }
+    judged.fault
 }
 
 // Writes a special event list to a lent record, all of it; refused, the record is as it was.

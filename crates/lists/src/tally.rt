@@ -3,18 +3,18 @@
 ghost use Rattle.std.specs.Prelude.{◌≡◌, ◌&&◌, ◌+◌, ◌-◌, ◌%◌, ◌^◌, ◌≤◌, ◌<◌, eqb, leb};
 ghost use Rattle.bits.specs.Bits.{bit};
 ghost use Rattle.rows.specs.Row.{pick};
-ghost use Rattle.lists.specs.Tally.{same_tally, raised, lowered, one_more, one_less, entered, removed, revalued, at_pointer, free_of};
+ghost use Rattle.lists.specs.Tally.{raised, lowered, one_more, one_less, entered, removed, revalued, at_pointer, free_of};
 
 use crate::list::{ContractList, Entry};
 
 // The positions of one kind.
-#[derive(Clone, Copy)]
+#[derive(Clone, Copy, Debug, PartialEq, Eq)]
 pub struct Positions {
     pub used: u32, // the pointers in use, bit pointer - 1
     pub spent: u32, // how many entries have priority 15
 }
 
-#[derive(Clone, Copy)]
+#[derive(Clone, Copy, Debug, PartialEq, Eq)]
 pub struct Tally {
     pub counter: Positions,
     pub plain: Positions,
@@ -39,7 +39,7 @@ impl Positions {
     {
         Positions {
             used: lowered(self.used, pointer),
-            spent: less(self.spent, gone),
+            spent: self.spent.saturating_sub(gone),
         }
     }
 
@@ -48,13 +48,11 @@ impl Positions {
         ensures { result ≡ free_of above last self }
     {
         let mut free = 0;
-        let mut k = 0;
-        while k < ContractList::MOST {
+        for k in 0..ContractList::MOST {
             let pointer = k + 1;
             if (above < pointer) & (pointer <= last) & ((self.used >> k) % 2 == 0) {
                 free += 1;
             }
-            k += 1;
         }
         free
     }
@@ -127,14 +125,6 @@ impl Tally {
         let positions = self.of(c, pointer);
         self.put(c, pointer, positions.recoded(old, new))
     }
-
-    pub(crate) fn equals(self, other: Tally) -> bool
-        ensures { result ≡ same_tally self other }
-    {
-        (self.counter.used == other.counter.used)
-            & (self.counter.spent == other.counter.spent)
-            & ((self.plain.used == other.plain.used) & (self.plain.spent == other.plain.spent))
-    }
 }
 
 // How many of some entries are used up, and how many of those are on counter positions.
@@ -154,8 +144,8 @@ impl Spent {
     {
         let spent = priority == Entry::ERASABLE;
         Spent {
-            all: self.all + one(spent),
-            counter: self.counter + one((pointer <= c) & spent),
+            all: self.all + u32::from(spent),
+            counter: self.counter + u32::from((pointer <= c) & spent),
         }
     }
 
@@ -176,12 +166,6 @@ impl Spent {
             },
         }
     }
-}
-
-fn one(yes: bool) -> u32
-    ensures { result ≡ bit yes }
-{
-    if yes { 1 } else { 0 }
 }
 
 // The mask with a pointer's bit raised. A pointer that no card has, has none.
@@ -219,20 +203,11 @@ fn one_more(spent: u32, priority: u32) -> u32
     spent
 }
 
-fn less(spent: u32, gone: u32) -> u32
-    ensures { result ≡ spent - gone }
-{
-    if spent < gone {
-        return 0;
-    }
-    spent - gone
-}
-
 fn one_less(spent: u32, priority: u32) -> u32
     ensures { result ≡ one_less priority spent }
 {
     if priority == Entry::ERASABLE {
-        return less(spent, 1);
+        return spent.saturating_sub(1);
     }
     spent
 }

@@ -1,19 +1,25 @@
-use borrow.Author.Tests.{eq-eqb, ne_eqb}
+use Prim.Native.Nat.{ℕ}
+use mathlib.Core.Bool.{true, false}
+use mathlib.Core.Logic.{◌⊎◌, inl, inr}
+use mathlib.Core.Path.{◌≡◌}
+use borrow.Author.Tests.{ne_eqb}
 use Rattle.records.specs.Answer.{area_length}
 use Rattle.holder.proofs.is_area.Goals as goal
 
-pub returns-then-n-eq29 : goal.returns-then-n-eq29
+one_of : (n : ℕ) → (n ≡ 29) ⊎ ((n ≡ 58) ⊎ ((n ≡ 87) ⊎ (n ≡ 116))) → true ≡ area_length n
 unfolding area_length
-returns-then-n-eq29 c = search eq-eqb
+one_of n (inl e) = rw e
+one_of n (inr (inl e)) = rw e
+one_of n (inr (inr (inl e))) = rw e
+one_of n (inr (inr (inr e))) = rw e
 
-pub returns-then-n-eq58 : goal.returns-then-n-eq58
+none_of : (n : ℕ) → ((n ≡ 29) ⊎ ((n ≡ 58) ⊎ ((n ≡ 87) ⊎ (n ≡ 116))) → ⊥) → false ≡ area_length n
 unfolding area_length
-returns-then-n-eq58 c = search (eq-eqb, ne_eqb)
+none_of n none =
+    rw (ne_eqb n 29 (λ e. none (inl e)), ne_eqb n 58 (λ e. none (inr (inl e))), ne_eqb n 87 (λ e. none (inr (inr (inl e)))), ne_eqb n 116 (λ e. none (inr (inr (inr e)))))
 
-pub returns-then-n-eq87 : goal.returns-then-n-eq87
-unfolding area_length
-returns-then-n-eq87 c = search (eq-eqb, ne_eqb)
+pub returns-in-29 : goal.returns-in-29
+returns-in-29 c = one_of c.args.n c.in-29.is
 
-pub returns : goal.returns
-unfolding area_length
-returns c = search ne_eqb
+pub returns-in_default : goal.returns-in_default
+returns-in_default c = search none_of

@@ -19,7 +19,7 @@ pub loop-k-preserved : goal.loop-k-preserved
 loop-k-preserved c =
     let l = c.args.list in
     let eight : length l.entries ≡ 8 = search (rules, length_of_map) in
-    putting_more eight c.loop-k.invariant _ _ _ c.loop-k-test.true c.put_entry-c.ensures
+    putting_more eight c.loop-k.invariant _ _ _ (omega arith) c.put_entry-c.ensures
 
 pub shape_of-draft : goal.shape_of-draft
 shape_of-draft c = puts_long c.loop-k.invariant.puts ∙ c.at_most-head.auto.draft
@@ -29,4 +29,4 @@ unfolding contract_list
 returns c =
     let l = c.args.list in
     let eight : length l.entries ≡ 8 = search (rules, length_of_map) in
-    c.at_most-head.ensures ◂ putting_all eight c.loop-k.invariant c.loop-k-test.false
+    c.at_most-head.ensures ◂ putting_all eight c.loop-k.invariant (omega arith)

@@ -4,7 +4,7 @@ use Rattle.rows.specs.Inner.Line.{taken, ◌▸◌}
 use Rattle.records.proofs.Answering.{eight_words}
 use Rattle.lists.specs.List.{list_fault}
 use Rattle.lists.proofs.Listing.{list_short, list_outside}
-use Rattle.lists.proofs.Lines.{sofar_start, sofar_few, sofar_limit, sofar_ready, sofar_more, sofar_refused, sofar_read, sofar_denied, line_refused}
+use Rattle.lists.proofs.Lines.{sofar_start, sofar_few, sofar_limit, sofar_ready, sofar_fault, sofar_more, sofar_refused, sofar_read, sofar_denied, line_refused}
 use Rattle.lists.proofs.list.read.Goals as goal
 
 pub returns-then-bytes-ne-BYTES : goal.returns-then-bytes-ne-BYTES
@@ -39,23 +39,23 @@ pub take_entry-taken-requires : goal.take_entry-taken-requires
 take_entry-taken-requires c = c.loop-k.invariant.ready
 
 pub returns-then-last-ne0 : goal.returns-then-last-ne0
-returns-then-last-ne0 c = c.refused-then-last-ne0.ensures ∙ rw c.met-then-last-ne0.ensures (sofar_refused c.loop-k.invariant _ _ c.take_entry-taken.ensures c.loop-k-test.true c.if-last-ne0.true)
+returns-then-last-ne0 c = c.refused-then-last-ne0.ensures ∙ rw c.met-then-last-ne0.ensures (sofar_refused c.loop-k.invariant _ _ c.take_entry-taken.ensures (omega arith) c.if-last-ne0.true)
 
 pub offset_bounds-list-k : goal.offset_bounds-list-k
-offset_bounds-list-k c = omega (arith, c.loop-k.invariant.few, c.loop-k-test.true)
+offset_bounds-list-k c = omega (arith, c.loop-k.invariant.few)
 
 pub bounds-list-k : goal.bounds-list-k
-bounds-list-k c = omega (arith, c.loop-k.invariant.few, c.loop-k-test.true)
+bounds-list-k c = omega (arith, c.loop-k.invariant.few)
 
 pub with-spent-requires : goal.with-spent-requires
-with-spent-requires c = sofar_few c.loop-k.invariant c.loop-k-test.true
+with-spent-requires c = sofar_few c.loop-k.invariant (omega arith)
 
 pub with-judged-requires : goal.with-judged-requires
 with-judged-requires c = sofar_limit c.loop-k.invariant
 
 pub loop-k-preserved : goal.loop-k-preserved
 loop-k-preserved c =
-    sofar_more c.loop-k.invariant _ _ _ _ c.take_entry-taken.ensures c.loop-k-test.true c.if-last-ne0.false c.with-spent.ensures c.with-judged.ensures
+    sofar_more c.loop-k.invariant _ _ _ _ c.take_entry-taken.ensures (omega arith) c.if-last-ne0.false c.with-spent.ensures c.with-judged.ensures
 
 pub slice_bounds-end-end : goal.slice_bounds-end-end
 slice_bounds-end-end c = eight_words c.args.bytes.now _ c.loop-k.invariant.cuts
@@ -64,10 +64,10 @@ pub end-requires : goal.end-requires
 end-requires c = (c.loop-k.invariant.ready, omega arith)
 
 pub returns-then-end-ne0 : goal.returns-then-end-ne0
-returns-then-end-ne0 c = c.refused-then-end-ne0.ensures ∙ rw c.met-then-end-ne0.ensures (sofar_denied c.loop-k.invariant c.loop-k-test.false _ _ c.end.ensures c.obeyed-end.ensures c.if-end-ne0.true)
+returns-then-end-ne0 c = c.refused-then-end-ne0.ensures ∙ rw c.met-then-end-ne0.ensures (sofar_denied c.loop-k.invariant (omega arith) _ _ c.end.ensures (c.obeyed-end.ensures _ (sofar_fault c.loop-k.invariant (omega arith))) c.if-end-ne0.true)
 
 pub tally-list-requires : goal.tally-list-requires
 tally-list-requires c = sofar_ready c.loop-k.invariant
 
 pub returns : goal.returns
-returns c = sofar_read c.loop-k.invariant c.loop-k-test.false _ _ c.end.ensures c.obeyed-end.ensures c.if-end-ne0.false _ c.tally-list.ensures
+returns c = sofar_read c.loop-k.invariant (omega arith) _ _ c.end.ensures (c.obeyed-end.ensures _ (sofar_fault c.loop-k.invariant (omega arith))) c.if-end-ne0.false _ c.tally-list.ensures

@@ -1,9 +1,5 @@
-use Prim.Native.Nat.{◌-◌}
 use Rattle.lists.proofs.Lines.{Sofar}
 use Rattle.lists.proofs.list.read.Given as goal
 
 abbrev pub invariant-loop-k : goal.invariant-loop-k
 invariant-loop-k l = Sofar l.bytes l.n l.c l.words l.count l.list l.judged l.spent l.last l.k
-
-abbrev pub decreases-loop-k : goal.decreases-loop-k
-decreases-loop-k l = l.count - l.k

@@ -18,12 +18,12 @@ returns-then-s-gt-MOST c = c.refused-then-s-gt-MOST.ensures ∙ list_outside _ _
 pub returns-then-last-ne0 : goal.returns-then-last-ne0
 returns-then-last-ne0 c =
     let a = c.args in
-    let last = rw c.at_fault.ensures at c.obeyed-last.ensures in
+    let last = c.obeyed-last.ensures _ c.at_fault.ensures in
     c.refused-then-last-ne0.ensures ∙ rw c.met.ensures (list_refused _ _ (special_fault a.s) _ _ a.bytes.now _ _ _ _ _ (omega (arith, special_rows)) c.if-bytes-ne-BYTES.false (le-ltb _ _ c.if-s-gt-MOST.false) c.words.ensures c.take_list-taken.ensures c.end-end.ensures last c.if-last-ne0.true)
 
 pub returns : goal.returns
 returns c =
     let a = c.args in
-    let last = rw c.at_fault.ensures at c.obeyed-last.ensures in
+    let last = c.obeyed-last.ensures _ c.at_fault.ensures in
     let four : length c.take_list-taken.result.list.entries ≡ 4 = search (rules, length_of_map) in
     ap got_special (sym (special_of_numbers c.take_list-taken.result.list four)) ∙ list_read_law _ _ (special_fault a.s) _ _ a.bytes.now _ _ _ _ _ (omega (arith, special_rows)) c.if-bytes-ne-BYTES.false (le-ltb _ _ c.if-s-gt-MOST.false) c.words.ensures c.take_list-taken.ensures c.end-end.ensures last c.if-last-ne0.false

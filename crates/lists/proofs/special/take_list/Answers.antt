@@ -1,19 +1,14 @@
 use Prim.Native.Nat.{◌<◌}
-use mathlib.Core.List.{List, [], ◌∷◌}
-use mathlib.Core.Path.{◌≡◌, refl, sym, ap, ◌∙◌}
+use mathlib.Core.List.{◌∷◌}
+use mathlib.Core.Path.{◌≡◌, refl, sym, ◌∙◌}
 use native.Mathlib.Omega.{arith}
 use lib.ListN.{length, length-set}
 use Rattle.rows.specs.Table.Special.{special_list}
 use Rattle.rows.specs.Inner.Line.{taken, ◌▸◌}
-use Rattle.records.proofs.Inverse.{named_all}
-use Rattle.lists.specs.Special.{entry_numbers, entry_of, numbers_of}
-use Rattle.lists.specs.declared.special.SpecialEntry.{SpecialEntry}
-use Rattle.lists.specs.declared.special.SpecialList.{SpecialList}
+use Rattle.lists.specs.Special.{entry_numbers, numbers_of}
 use Rattle.lists.proofs.Rowing.{flat, taking_more, taking_all}
+use Rattle.lists.proofs.special.Laws.{numbers_flat}
 use Rattle.lists.proofs.special.take_list.Goals as goal
-
-numbers_flat : (l : SpecialList) → length l.entries ≡ 4 → numbers_of l ≡ l.count ∷ flat entry_numbers l.entries
-numbers_flat l four = ap (λ (es : List SpecialEntry). l.count ∷ flat entry_numbers es) (named_all (entry_of [] 0) 4 l.entries four)
 
 pub loop-k-init : goal.loop-k-init
 loop-k-init c = (refl, refl, record { upto = omega arith; ready = c.at_most-head.ensures.ready; takes = taken })
@@ -22,19 +17,19 @@ pub take_entry-taken-requires : goal.take_entry-taken-requires
 take_entry-taken-requires c = c.loop-k.invariant.2.ready
 
 pub bounds-list-k : goal.bounds-list-k
-bounds-list-k c = omega (arith, c.loop-k.invariant.0, c.loop-k-test.true)
+bounds-list-k c = omega (arith, c.loop-k.invariant.0)
 
 pub loop-k-preserved : goal.loop-k-preserved
 loop-k-preserved c =
     let l = c.loop-k in
-    let more : l.k < length l.list.entries = omega (arith, l.invariant.0, c.loop-k-test.true) in
+    let more : l.k < length l.list.entries = omega (arith, l.invariant.0) in
     (length-set l.list.entries l.k _ ∙ l.invariant.0, l.invariant.1, taking_more l.invariant.2 5 (λ e. refl) _ _ more c.take_entry-taken.ensures)
 
 pub returns : goal.returns
 unfolding special_list
 returns c =
     let l = c.loop-k in
-    let all : l.k ≡ length l.list.entries = omega (arith, l.invariant.0, l.invariant.2.upto, c.loop-k-test.false) in
+    let all : l.k ≡ length l.list.entries = omega (arith, l.invariant.0, l.invariant.2.upto) in
     let rest = rw l.invariant.0 at (taking_all l.invariant.2 all) in
     let numbers : c.at_most-head.result.number ∷ flat entry_numbers l.list.entries ≡ numbers_of l.list = rw (← l.invariant.1) (sym (numbers_flat l.list l.invariant.0)) in
     record { takes = c.at_most-head.ensures ▸ (rw numbers at rest); ready = l.invariant.2.ready }

@@ -1,4 +1,3 @@
-use Prim.Native.Nat.{◌-◌}
 use mathlib.Core.Path.{◌≡◌}
 use lib.ListN.{length}
 use Rattle.rows.specs.Table.Special.{entry}
@@ -9,6 +8,3 @@ use Rattle.lists.proofs.special.take_list.Given as goal
 abbrev pub invariant-loop-k : goal.invariant-loop-k
 invariant-loop-k l =
     (length l.list.entries ≡ 4) × (l.list.count ≡ l.count) × Taking entry entry_numbers l.words l.count l.initial.last l.list.entries l.last l.k
-
-abbrev pub decreases-loop-k : goal.decreases-loop-k
-decreases-loop-k l = 4 - l.k

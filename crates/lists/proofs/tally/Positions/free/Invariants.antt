@@ -4,8 +4,4 @@ use Rattle.lists.specs.Tally.{free_from, free_of}
 use Rattle.lists.proofs.tally.Positions.free.Given as goal
 
 abbrev pub invariant-loop-k : goal.invariant-loop-k
-invariant-loop-k l =
-    (l.k ≤ 8) × (l.free ≤ l.k) × (l.free + free_from l.above l.last l.self.used (8 - l.k) (l.k + 1) ≡ free_of l.above l.last l.self)
-
-abbrev pub decreases-loop-k : goal.decreases-loop-k
-decreases-loop-k l = 8 - l.k
+invariant-loop-k l = (l.free ≤ l.k) × (l.free + free_from l.above l.last l.self.used (8 - l.k) (l.k + 1) ≡ free_of l.above l.last l.self)
