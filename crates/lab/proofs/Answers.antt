@@ -1,8 +1,6 @@
 -- From a run of the second reader to the answer about a record, an area or a list.
-use Rattle.std.proofs.Common.{◌≡◌, ℕ, zero, suc, ◌+◌, ◌-◌, ◌*◌, ◌^◌, ◌<◌, ◌≤◌, Bool, true, false, List, [], ◌∷◌, length, take, drop, sym, refl, ap, ◌∙◌, arith, length-append, length-drop, length-take-le, drop-cons, take-take, eq-eqb, ne_eqb}
-use lib.ListN.{length-replicate}
+use Rattle.std.proofs.Common.{◌≡◌, ℕ, zero, suc, ◌+◌, ◌-◌, ◌*◌, ◌^◌, ◌<◌, ◌≤◌, Bool, true, false, List, [], length, take, drop, sym, refl, ap, ◌∙◌, arith, length-drop, length-take-le, drop-cons, take-take, eq-eqb, ne_eqb}
 use Rattle.bits.specs.Bits.{spread, cut, cleared, leading}
-use Rattle.bits.proofs.Clearing.{leading-cleared}
 use Rattle.bits.proofs.Cutting.{length_cut, length-spread}
 use Rattle.rows.specs.Row.{Row}
 use Rattle.rows.specs.Walk.{done, refused, walk, boxes_at, holding, blank, read, read_bare, slots}
@@ -11,6 +9,7 @@ use Rattle.lab.specs.Machine.{begun, run}
 use Rattle.lab.specs.Inner.Reading.{Fits, by, Reads, ReadsBare}
 use Rattle.lab.specs.declared.state.State.{State}
 use Rattle.lab.proofs.Following.{outcome, followed}
+use Rattle.lab.proofs.Running.{length_cleared}
 use Rattle.records.specs.Answer.{refusal, refusal_at, answered, valued, from, read_record, area_length, read_area}
 use Rattle.lists.specs.Listing.{read_list}
 use Rattle.records.specs.Answer.{Answer}
@@ -21,12 +20,6 @@ front_from l i zero h = refl
 front_from l i (suc n) h =
     let rest : suc i + n ≤ length l = omega arith in
     rw (drop-cons l i 0 (omega arith), front_from l (suc i) n rest)
-
--- There are at most as many zeros in front as bits.
-leading_most : (bs : List Bool) → leading bs ≤ length bs
-leading_most [] = omega arith
-leading_most (true ∷ bs) = omega arith
-leading_most (false ∷ bs) = let rest = leading_most bs in omega arith
 
 module _ (rows : List Row) (most : ℕ) (bytes : List ℕ) (n : ℕ) (s : State) (fits : Fits rows (length bytes) n)
     (runs : s ≡ run rows (begun rows most (8 * length bytes)) (spread 8 bytes)) where
@@ -56,15 +49,6 @@ module _ (rows : List Row) (most : ℕ) (bytes : List ℕ) (n : ℕ) (s : State)
       let low : length rows < 2 ^ 32 = fits.low in
       let past : length (drop names.before rows) ≡ length rows - names.before = length-drop names.before rows in
       omega arith
-
-  -- The bits behind a place, with zeros before it.
-  clearing : (start : ℕ) → (length (cleared start (spread 8 bytes)) ≡ start + (8 * length bytes - start))
-      × (leading (cleared start (spread 8 bytes)) ≤ start + (8 * length bytes - start))
-      × (start ≤ leading (cleared start (spread 8 bytes)))
-  clearing start =
-      let long : length (cleared start (spread 8 bytes)) ≡ start + (8 * length bytes - start) =
-      rw (length-append, length-replicate, length-drop, length-spread) in
-      (long, rw long at (leading_most (cleared start (spread 8 bytes))), rw leading-cleared (omega arith))
 
   -- The first numbers of a state, where more were copied.
   firsts : {numbers : List ℕ} → n ≤ length s.numbers → numbers ≡ take n s.numbers → from 0 (slots rows) numbers ≡ take (slots rows) s.numbers
@@ -99,17 +83,14 @@ module _ (rows : List Row) (most : ℕ) (bytes : List ℕ) (n : ℕ) (s : State)
         → r ≡ refusal_at 5 one 0 → ReadsBare rows bytes r numbers
     unfolding read_bare blank
     bare_five ok one first inside e =
-        let (long, most, least) = clearing s.start in
+        let long = length_cleared s.start bytes in
         let short : leading (cleared s.start (spread 8 bytes)) ≡ length (cleared s.start (spread 8 bytes)) → ⊥ = λ h. omega arith in
         record { end = 0; says = rw (tells_read ok, ne_eqb _ _ short, e, first) }
 
-    pub bare_all : s.why ≡ 0 → (one : ℕ) → one ≡ leading (cleared s.start (spread 8 bytes)) → 8 * length bytes ≤ one
+    pub bare_all : s.why ≡ 0 → leading (cleared s.start (spread 8 bytes)) ≡ length (cleared s.start (spread 8 bytes))
         → r ≡ refusal 0 0 → n ≤ length s.numbers → numbers ≡ take n s.numbers → ReadsBare rows bytes r numbers
     unfolding read_bare blank
-    bare_all ok one first past e wide same =
-        let (long, most, least) = clearing s.start in
-        let all : leading (cleared s.start (spread 8 bytes)) ≡ length (cleared s.start (spread 8 bytes)) = omega arith in
-        record { end = s.start; says = rw (tells_read ok, eq-eqb _ _ all, e, firsts wide same) }
+    bare_all ok all e wide same = record { end = s.start; says = rw (tells_read ok, eq-eqb _ _ all, e, firsts wide same) }
 
 -- The answers that readings come to, of rows that are a table of n slots.
 module _ {A : Type 0} {rows laid : List Row} {bytes : List ℕ} {r : Answer} {numbers : List ℕ} (n : ℕ)

@@ -1,5 +1,5 @@
 -- The first entry of a list that does not keep the rule, an entry at a time.
-use Rattle.std.proofs.Common.{◌≡◌, ℕ, zero, suc, ◌+◌, ◌-◌, ◌*◌, ◌<◌, ◌≤◌, List, [], ◌∷◌, ◌++◌, length, get_or, take, refl, ap, add-zero, mul-zero, mul-suc, add-one, arith}
+use Rattle.std.proofs.Common.{◌≡◌, ℕ, zero, suc, ◌+◌, ◌-◌, ◌*◌, ◌<◌, ◌≤◌, min, Bool, true, false, leb, List, [], ◌∷◌, ◌++◌, length, get_or, take, refl, ap, add-zero, mul-zero, mul-suc, add-one, arith, leb-true, leb-false}
 use native.Mathlib.Nat.{sub-zero}
 use lib.Seq.{take-nil}
 use Rattle.rows.specs.Row.{pick}
@@ -49,10 +49,10 @@ module _ (n size full limit : ℕ) (vals : List ℕ) where
       rw (one, column_from n size 1 k vals h, column_from n size size k vals h, length_column, add-one, column_last)
 
   -- and none behind the last entry, or the last counted.
-  pub fault_none : (k : ℕ) → n ≤ k → fault_from k ≡ 0
+  pub fault_past : (k : ℕ) → min n (get_or vals 0 0) ≤ k → fault_from k ≡ 0
   unfolding fault_from
-  fault_none k h = let none : n - k ≡ 0 = omega arith in rw (none, take-nil)
-
-  pub fault_over : (k : ℕ) → get_or vals 0 0 ≤ k → fault_from k ≡ 0
-  unfolding fault_from
-  fault_over k h = let none : get_or vals 0 0 - k ≡ 0 = omega arith in rw none
+  fault_past k h = go (leb n k) refl
+    where
+      go : (b : Bool) → leb n k ≡ b → fault_after full limit (column k size size vals) (counted 1 k) (counted size k) ≡ 0
+      go true e = let none : n - k ≡ 0 = omega (arith, leb-true _ _ e) in rw (none, take-nil)
+      go false e = let none : get_or vals 0 0 - k ≡ 0 = omega (arith, leb-false _ _ e) in rw none

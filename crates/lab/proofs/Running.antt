@@ -1,5 +1,8 @@
--- A run, one bit more at a time, and that it leaves the number of contract records alone.
-use Rattle.std.proofs.Common.{◌≡◌, ℕ, ◌+◌, ◌-◌, ◌<◌, Bool, true, false, ◌&&◌, eqb, ltb, List, [], ◌∷◌, map, length, get_or, drop, refl, ap, ◌∙◌, add-one, drop-cons}
+-- A run, one bit more at a time, and that it leaves the number of contract records alone; how many bits a record with a margin has.
+use Rattle.std.proofs.Common.{◌≡◌, ℕ, ◌+◌, ◌-◌, ◌*◌, ◌<◌, Bool, true, false, ◌&&◌, eqb, ltb, List, [], ◌∷◌, map, length, get_or, drop, refl, ap, ◌∙◌, add-one, length-append, length-drop, drop-cons}
+use lib.ListN.{length-replicate}
+use Rattle.bits.specs.Bits.{spread, cleared}
+use Rattle.bits.proofs.Cutting.{length-spread}
 use Rattle.rows.specs.Row.{Row, pick, told, holds, broken}
 use Rattle.rows.specs.Walk.{total}
 use Rattle.lab.specs.Layout.{row_of}
@@ -46,3 +49,7 @@ run_from cs s bs k h =
     let rows = map (row_of s.most) cs in
     let b = get_or bs k false in
     ap (λ (n : ℕ). run (map (row_of n) cs) (stepped rows s b) (drop (k + 1) bs)) (stepped_most rows s b) ∙ rw (add-one, drop-cons bs k false)
+
+-- How many bits there are, those before one cleared.
+pub length_cleared : (start : ℕ) (bytes : List ℕ) → length (cleared start (spread 8 bytes)) ≡ start + (8 * length bytes - start)
+length_cleared start bytes = rw (length-append, length-replicate, length-drop, length-spread)

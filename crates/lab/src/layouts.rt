@@ -1,6 +1,8 @@
 // The layouts of the card's structures, a line a row in card order, as document 01 has them under "Layouts" and "Numbers with a
 // range". A line is the width of the field's box, with what row.rt says may be added; then the slot of its number, from 0, and its
 // name. [e] is the element of the bitmap that marks it.
+#![tactic(auto, unfolding(crate::specs::Layout::boxes_of, crate::specs::Layout::cond_of, crate::specs::Layout::rule_of, rows::specs::Table::Environment::environment, rows::specs::Table::Event::event, rows::specs::Table::Holder::holder, rows::specs::Table::Contract::head, rows::specs::Table::Contract::data42, rows::specs::Table::Contract::data50, rows::specs::Table::Contract::contract42, rows::specs::Table::Contract::contract50, rows::specs::Table::BestContracts::contract_list, rows::specs::Table::Special::special_list))]
+
 ghost use Rattle.std.specs.Prelude.{◌≡◌, ℕ, map};
 ghost use Rattle.rows.specs.Table.Environment.{environment};
 ghost use Rattle.rows.specs.Table.Event.{event};

@@ -35,10 +35,9 @@ pub fn environment(bytes: &[u8]) -> EnvironmentRead
     if bytes.len() != BYTES {
         return EnvironmentRead::Refused(Refusal::WRONG_LENGTH);
     }
-    let rows = layouts::environment();
     let mut numbers = [0u32; 10];
     let mut margin = [0u64; 4];
-    let refusal = reading::with_margin(&rows, bytes, &mut numbers, &mut margin);
+    let refusal = reading::with_margin(&layouts::environment(), bytes, &mut numbers, &mut margin);
     if refusal.number != 0 {
         return EnvironmentRead::Refused(refusal);
     }
@@ -52,10 +51,9 @@ pub fn event(bytes: &[u8]) -> EventRead
     if bytes.len() != BYTES {
         return EventRead::Refused(Refusal::WRONG_LENGTH);
     }
-    let rows = layouts::event();
     let mut numbers = [0u32; 36];
     let mut margin = [0u64; 4];
-    let refusal = reading::with_margin(&rows, bytes, &mut numbers, &mut margin);
+    let refusal = reading::with_margin(&layouts::event(), bytes, &mut numbers, &mut margin);
     if refusal.number != 0 {
         return EventRead::Refused(refusal);
     }
@@ -69,10 +67,9 @@ pub fn holder(bytes: &[u8]) -> HolderRead
     if !holder::is_area(bytes.len()) {
         return no_holder(Refusal::WRONG_LENGTH);
     }
-    let rows = layouts::holder();
     let mut numbers = [0u32; 111];
     let mut margin = [0u64; 15];
-    let refusal = reading::with_margin(&rows, bytes, &mut numbers, &mut margin);
+    let refusal = reading::with_margin(&layouts::holder(), bytes, &mut numbers, &mut margin);
     if refusal.number != 0 {
         return no_holder(refusal);
     }
@@ -110,16 +107,15 @@ pub fn contract(bytes: &[u8], kind: u32) -> ContractRead
     ContractRead::Read(Contract::of(kind, numbers, Margin::of(margin)))
 }
 
+#[tactic(auto, using(crate::proofs::Tables::carnet_fits, crate::proofs::Tables::urban_fits))]
 fn contract_numbers(bytes: &[u8], kind: u32, numbers: &mut [u32], margin: &mut [u64]) -> Refusal
     requires { (length bytes.now ≡ 29) × ((length numbers.old ≡ 45) × (length margin.old ≡ 4)) }
     ensures { Reads (table_of kind) bytes.now result numbers.new margin.new }
 {
-    if kind == Contract::CARNET {
-        let rows = layouts::carnet();
-        return reading::with_margin(&rows, bytes, numbers, margin);
+    match kind {
+        Contract::CARNET => reading::with_margin(&layouts::carnet(), bytes, numbers, margin),
+        _ => reading::with_margin(&layouts::urban(), bytes, numbers, margin),
     }
-    let rows = layouts::urban();
-    reading::with_margin(&rows, bytes, numbers, margin)
 }
 
 // The contract list in a lent record, on a card with n contract records, the first c of them with counters.
@@ -132,15 +128,13 @@ pub fn list(bytes: &[u8], n: u32, c: u32) -> ListRead
     if list::outside(n, c) {
         return no_list(Refusal::OUTSIDE_LIMITS);
     }
-    let rows = layouts::contract_list();
     let mut numbers = [0u32; 49];
-    let refusal = reading::bare(&rows, n, bytes, &mut numbers);
+    let refusal = reading::bare(&layouts::contract_list(), n, bytes, &mut numbers);
     if refusal.number != 0 {
         return no_list(refusal);
     }
-    let fault = rules::at_fault(&numbers, 8, 6, Entry::FULL, n);
-    if fault != 0 {
-        return no_list(rules::against(fault));
+    if let Some(entry) = rules::at_fault(&numbers, 8, 6, Entry::FULL, n) {
+        return no_list(rules::against(entry));
     }
     ListRead {
         refusal: Refusal::NONE,
@@ -167,15 +161,13 @@ pub fn special(bytes: &[u8], s: u32) -> SpecialRead
     if SpecialList::MOST < s {
         return no_special(Refusal::OUTSIDE_LIMITS);
     }
-    let rows = layouts::special_list();
     let mut numbers = [0u32; 21];
-    let refusal = reading::bare(&rows, 0, bytes, &mut numbers);
+    let refusal = reading::bare(&layouts::special_list(), 0, bytes, &mut numbers);
     if refusal.number != 0 {
         return no_special(refusal);
     }
-    let fault = rules::at_fault(&numbers, 4, 5, SpecialEntry::FULL, s);
-    if fault != 0 {
-        return no_special(rules::against(fault));
+    if let Some(entry) = rules::at_fault(&numbers, 4, 5, SpecialEntry::FULL, s) {
+        return no_special(rules::against(entry));
     }
     SpecialRead {
         refusal: Refusal::NONE,

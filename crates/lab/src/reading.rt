@@ -20,9 +20,8 @@ pub(crate) fn with_margin(
     if state.why != 0 {
         return state.refusal();
     }
-    let start = state.start;
-    run::slots(&state.numbers, numbers);
-    run::margin(bytes, start, margin);
+    numbers.copy_from_slice(&state.numbers[..numbers.len()]);
+    run::margin(bytes, state.start, margin);
     Refusal::NONE
 }
 
@@ -35,14 +34,13 @@ pub(crate) fn bare(rows: &[u64], most: u32, bytes: &[u8], numbers: &mut [u32]) -
     if state.why != 0 {
         return state.refusal();
     }
-    let one = run::first_one(bytes, state.start);
-    if (one as usize) < 8 * bytes.len() {
+    if let Some(place) = run::first_one(bytes, state.start) {
         return Refusal {
             number: 5,
-            place: one,
+            place,
             field: 0,
         };
     }
-    run::slots(&state.numbers, numbers);
+    numbers.copy_from_slice(&state.numbers[..numbers.len()]);
     Refusal::NONE
 }

@@ -1,12 +1,15 @@
 // A row of a layout is one number, the sum of what is said of its field: the width, in bits, and what follows here. Nothing more is
 // a field of one box that is always there and takes every number of its width.
-ghost use Rattle.std.specs.Prelude.{◌≡◌, ◌^◌, ◌<◌, length, drop, slice_index};
-ghost use Rattle.rows.specs.Row.{pick, told, holds, broken};
+#![tactic(auto, unfolding(crate::specs::Layout::boxes_of, crate::specs::Layout::cond_of, crate::specs::Layout::rule_of), using(rows::proofs::Stepping::total_same, crate::proofs::Rows::some_width, crate::proofs::Rows::box_even))]
+
+ghost use Rattle.std.specs.Prelude.{◌≡◌, ◌≢◌, ◌^◌, ◌<◌, length, drop, slice_index, MatchOption};
+ghost use Rattle.rows.specs.Row.{told, holds, broken};
 ghost use Rattle.rows.specs.Walk.{total};
 ghost use Rattle.lab.specs.Layout.{width_of, letters_of, when_of, slot_of, element_of, rule_number, limit_of, cond_of, boxes_of, rule_of};
 ghost use Rattle.lab.specs.Machine.{box_at};
 
-// How the parts of a row that say when and the rule are numbered; 0 is always, and any number.
+// How the parts of a row that say when and the rule are numbered; 0 is always, and any number. They are numbers and no enum, since
+// `when` and `rule` have the contracts that docs/CONTRACTS.md names, `when_of` and `rule_number`.
 const BY_BIT: u64 = 1;
 
 const BY_COUNT: u64 = 2;
@@ -96,28 +99,22 @@ pub fn limit(row: u64) -> u64
 pub fn boxes(row: u64) -> u64
     ensures { result ≡ length (boxes_of row) }
 {
-    if rule(row) == OF_TARIFF {
-        return 3;
+    match (rule(row), letters(row)) {
+        (OF_TARIFF, _) => 3,
+        (_, 0) => 1,
+        (_, letters) => letters,
     }
-    let letters = letters(row);
-    if letters == 0 {
-        return 1;
-    }
-    letters
 }
 
 // How many bits it has in all.
 pub fn bits(row: u64) -> u64
     ensures { result ≡ total (boxes_of row) }
 {
-    if rule(row) == OF_TARIFF {
-        return 16;
+    match (rule(row), letters(row)) {
+        (OF_TARIFF, _) => 16,
+        (_, 0) => width(row),
+        (_, letters) => letters * width(row),
     }
-    let letters = letters(row);
-    if letters == 0 {
-        return width(row);
-    }
-    letters * width(row)
 }
 
 // Which of its boxes its bit p is in.
@@ -125,30 +122,20 @@ pub(crate) fn box_at(row: u64, p: u64) -> u64
     requires { p < total (boxes_of row) }
     ensures { result ≡ box_at (boxes_of row) p }
 {
-    if rule(row) == OF_TARIFF {
-        if p < 4 {
-            return 0;
-        }
-        if p < 12 {
-            return 1;
-        }
-        return 2;
+    match (rule(row), letters(row)) {
+        (OF_TARIFF, _) if p < 4 => 0,
+        (OF_TARIFF, _) if p < 12 => 1,
+        (OF_TARIFF, _) => 2,
+        (_, 0) => 0,
+        _ => p / width(row),
     }
-    if letters(row) == 0 {
-        return 0;
-    }
-    p / width(row)
 }
 
 // The number in a slot, 0 where there is none.
 pub(crate) fn at(numbers: &[u32], slot: u64) -> u32
     ensures { result ≡ slice_index numbers.now slot }
 {
-    let k = slot as usize;
-    if k < numbers.len() {
-        return numbers[k];
-    }
-    0
+    numbers.get(slot as usize).copied().unwrap_or(0)
 }
 
 // Whether it is there, after the numbers so far.
@@ -156,43 +143,24 @@ pub(crate) fn there(row: u64, numbers: &[u32]) -> bool
     ensures { result ≡ holds (told (cond_of row) numbers.now) }
 {
     let marks = at(numbers, slot(row));
-    let when = when(row);
-    if when == BY_BIT {
-        return (marks >> element(row)) % 2 == 1;
+    match when(row) {
+        BY_BIT => (marks >> element(row)) % 2 == 1,
+        BY_COUNT => element(row) < marks as u64,
+        _ => true,
     }
-    if when == BY_COUNT {
-        return element(row) < marks as u64;
-    }
-    true
 }
 
-// The refusal of its rule, 0 for none, where its numbers are those from slot first on.
-pub(crate) fn broken(row: u64, most: u32, numbers: &[u32], first: u64) -> u32
+// The number of the refusal, where its rule is broken by its numbers, those from slot first on.
+pub(crate) fn broken(row: u64, most: u32, numbers: &[u32], first: u64) -> Option<u32>
     requires { first < 2 ^ 32 }
-    ensures { result ≡ broken (rule_of most row) (drop first numbers.now) }
+    ensures { MatchOption result (broken (rule_of most row) (drop first numbers.now) ≡ 0) (λ why. (broken (rule_of most row) (drop first numbers.now) ≡ why) × (why ≢ 0)) }
 {
-    let rule = rule(row);
-    if rule == LIMITED {
-        return refusal(limit(row) < at(numbers, first) as u64, 4);
+    let number = at(numbers, first);
+    match rule(row) {
+        LIMITED => (limit(row) < number as u64).then_some(4),
+        OF_TARIFF => (at(numbers, first + 2) == 13).then_some(4),
+        WITHOUT_SECOND => (number / 2 % 2 == 1).then_some(3),
+        LIMITED_BY_N => (most < number).then_some(4),
+        _ => None,
     }
-    if rule == OF_TARIFF {
-        return refusal(at(numbers, first + 2) == 13, 4);
-    }
-    if rule == WITHOUT_SECOND {
-        return refusal(at(numbers, first) / 2 % 2 == 1, 3);
-    }
-    if rule == LIMITED_BY_N {
-        return refusal(most < at(numbers, first), 4);
-    }
-    0
-}
-
-// A refusal's number where a rule is broken.
-fn refusal(broken: bool, why: u32) -> u32
-    ensures { result ≡ pick broken why 0 }
-{
-    if broken {
-        return why;
-    }
-    0
 }

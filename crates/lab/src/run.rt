@@ -1,5 +1,5 @@
 // A run: the bits of lent bytes, one after another.
-ghost use Rattle.std.specs.Prelude.{◌≡◌, ◌*◌, ◌≤◌, false, ◌++◌, map, length, take, drop, slice_index_or};
+ghost use Rattle.std.specs.Prelude.{◌≡◌, ◌*◌, ◌<◌, ◌≤◌, false, ◌++◌, map, length, take, drop, slice_index_or, MatchOption};
 ghost use Rattle.bits.specs.Bits.{bit, number, zeros, spread, cut, cleared, leading};
 ghost use Rattle.lab.specs.Layout.{row_of};
 ghost use Rattle.lab.specs.Machine.{begun, run};
@@ -10,11 +10,10 @@ use crate::state::State;
 pub fn bit_at(bytes: &[u8], place: u32) -> bool
     ensures { result ≡ slice_index_or (spread 8 bytes.now) place false }
 {
-    let k = place as usize / 8;
-    if bytes.len() <= k {
-        return false;
+    match bytes.get(place as usize / 8) {
+        Some(byte) => (byte >> (7 - place % 8)) % 2 == 1,
+        None => false,
     }
-    (bytes[k] >> (7 - place % 8)) % 2 == 1
 }
 
 // The state behind the last bit.
@@ -24,10 +23,8 @@ pub(crate) fn run(rows: &[u64], most: u32, bytes: &[u8]) -> State
 {
     let room = 8 * bytes.len() as u32;
     let mut state = State::begin(rows, most, room);
-    let mut place = 0;
-    while place < room {
+    for place in 0..room {
         state = state.step(rows, bit_at(bytes, place));
-        place += 1;
     }
     state
 }
@@ -37,24 +34,19 @@ pub(crate) fn margin(bytes: &[u8], end: u32, words: &mut [u64])
     requires { length words.old ≤ 15 }
     ensures { words.new ≡ cut 64 64 (length words.old) (cleared end (spread 8 bytes.now)) }
 {
-    let mut k = 0;
-    while k < words.len() {
-        words[k] = word(bytes, end, 64 * k as u32);
-        k += 1;
+    for (k, word) in words.iter_mut().enumerate() {
+        *word = margin_word(bytes, end, 64 * k as u32);
     }
 }
 
 // The word of a margin that begins at a bit.
-fn word(bytes: &[u8], end: u32, from: u32) -> u64
+fn margin_word(bytes: &[u8], end: u32, from: u32) -> u64
     requires { from ≤ 960 }
     ensures { result ≡ number (take 64 (drop from (cleared end (spread 8 bytes.now)) ++ zeros 64)) }
 {
     let mut word = 0;
-    let mut k = 0;
-    while k < 64 {
-        let place = from + k;
-        word = word * 2 + margin_bit(bytes, end, place);
-        k += 1;
+    for k in 0..64 {
+        word = word * 2 + margin_bit(bytes, end, from + k);
     }
     word
 }
@@ -63,39 +55,18 @@ fn word(bytes: &[u8], end: u32, from: u32) -> u64
 fn margin_bit(bytes: &[u8], end: u32, place: u32) -> u64
     ensures { result ≡ bit (slice_index_or (cleared end (spread 8 bytes.now)) place false) }
 {
-    if place < end {
-        return 0;
-    }
-    if bit_at(bytes, place) {
-        return 1;
-    }
-    0
+    (end <= place && bit_at(bytes, place)) as u64
 }
 
-// The place of the first one from a bit on, or the end.
-pub(crate) fn first_one(bytes: &[u8], from: u32) -> u32
+// The place of the first one from a bit on.
+pub(crate) fn first_one(bytes: &[u8], from: u32) -> Option<u32>
     requires { length bytes.now ≤ 116 }
-    ensures { result ≡ leading (cleared from (spread 8 bytes.now)) }
+    ensures { MatchOption result (leading (cleared from (spread 8 bytes.now)) ≡ length (cleared from (spread 8 bytes.now))) (λ place. (place ≡ leading (cleared from (spread 8 bytes.now))) × (place < 8 * length bytes.now)) }
 {
-    let room = 8 * bytes.len() as u32;
-    let mut place = from;
-    while place < room {
+    for place in from..8 * bytes.len() as u32 {
         if bit_at(bytes, place) {
-            return place;
+            return Some(place);
         }
-        place += 1;
     }
-    place
-}
-
-// The first numbers of a state, as many as there is room for.
-pub(crate) fn slots(numbers: &[u32], out: &mut [u32])
-    requires { length out.old ≤ length numbers.now }
-    ensures { out.new ≡ take (length out.old) numbers.now }
-{
-    let mut k = 0;
-    while k < out.len() {
-        out[k] = numbers[k];
-        k += 1;
-    }
+    None
 }

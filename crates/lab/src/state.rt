@@ -1,5 +1,5 @@
 // The second reader's state, and what one bit more makes of it.
-ghost use Rattle.std.specs.Prelude.{◌≡◌, ◌+◌, ◌-◌, ◌^◌, ◌<◌, map, length, drop};
+ghost use Rattle.std.specs.Prelude.{◌≡◌, ◌+◌, ◌-◌, ◌^◌, ◌<◌, ◌≤◌, map, length, drop};
 ghost use Rattle.rows.specs.Walk.{total};
 ghost use Rattle.records.specs.Answer.{refusal_at};
 ghost use Rattle.lab.specs.Layout.{row_of, boxes_of};
@@ -7,12 +7,11 @@ ghost use Rattle.lab.specs.Machine.{stopped, passed, entered, arrived, noted, cl
 
 use crate::row;
 use records::Refusal;
-use std::num::wrapping_add_u32;
 
 // The most numbers of a structure, the Holder's.
 pub const SLOTS: usize = 111;
 
-#[derive(Clone, Copy)]
+#[derive(Clone, Copy, PartialEq, Eq, Debug)]
 pub struct State {
     pub room: u32, // how many bits there are
     pub most: u32, // how many contract records the card has
@@ -26,6 +25,7 @@ pub struct State {
 
 impl State {
     // Before the first bit of so many.
+    #[tactic(auto, unfolding(crate::specs::Machine::begun))]
     pub fn begin(rows: &[u64], most: u32, room: u32) -> State
         ensures { result ≡ begun (map (row_of most) rows.now) most room }
     {
@@ -43,25 +43,20 @@ impl State {
     }
 
     // With one bit more. After a refusal and at the end nothing moves.
+    #[tactic(auto, unfolding(crate::specs::Machine::stepped), using(crate::proofs::Rows::rows_from, crate::proofs::Rows::rows_over))]
     pub fn step(self, rows: &[u64], bit: bool) -> State
         ensures { result ≡ stepped (map (row_of self.most) rows.now) self bit }
     {
-        if self.why != 0 {
+        if self.why != 0 || self.room <= self.at {
             return self;
         }
-        if self.room <= self.at {
-            return self;
-        }
-        let k = self.row;
-        if rows.len() <= k {
+        let Some(&row) = rows.get(self.row) else {
             return self.counted();
-        }
-        let row = rows[k];
+        };
         if row::bits(row) <= self.taken() {
             return self;
         }
-        let noted = self.noted(row, bit);
-        noted.closed(rows, row)
+        self.noted(row, bit).closed(rows, row)
     }
 
     // The refusal that it tells.
@@ -80,10 +75,7 @@ impl State {
     fn taken(self) -> u64
         ensures { result ≡ self.at - self.start }
     {
-        if self.start < self.at {
-            return self.at as u64 - self.start as u64;
-        }
-        0
+        self.at.saturating_sub(self.start) as u64
     }
 
     fn stopped(mut self, why: u32) -> State
@@ -98,22 +90,24 @@ impl State {
         requires { self.at < self.room }
         ensures { result ≡ counted self }
     {
-        self.at = self.at + 1;
+        self.at += 1;
         self
     }
 
     // Behind a row, at the next.
+    #[tactic(auto, using(crate::proofs::Rows::few_boxes))]
     fn passed(mut self, row: u64) -> State
         requires { self.row + 1 < 2 ^ 64 }
         ensures { result ≡ passed (row_of self.most row) self }
     {
-        self.row = self.row + 1;
+        self.row += 1;
         self.start = self.at;
-        self.first = wrapping_add_u32(self.first, row::boxes(row) as u32);
+        self.first = self.first.wrapping_add(row::boxes(row) as u32);
         self
     }
 
     // At a field that is there: 2 where it runs past the end.
+    #[tactic(auto, using(crate::proofs::Rows::few_bits))]
     fn entered(self, row: u64) -> State
         ensures { result ≡ entered (row_of self.most row) self }
     {
@@ -125,12 +119,11 @@ impl State {
 
     // At the next field that is there: the rows before it have no bits.
     fn arrived(self, rows: &[u64]) -> State
+        requires { self.row ≤ length rows.now }
         ensures { result ≡ arrived (drop self.row (map (row_of self.most) rows.now)) self }
     {
         let mut s = self;
-        while s.row < rows.len() {
-            let k = s.row;
-            let row = rows[k];
+        for &row in &rows[s.row..] {
             if row::there(row, &s.numbers) {
                 return s.entered(row);
             }
@@ -140,12 +133,14 @@ impl State {
     }
 
     // With a bit more of its field: the number in the box that the bit is in is doubled, and the bit added.
+    #[tactic(auto, using(crate::proofs::Rows::few_boxes, crate::proofs::Rows::box_within))]
     fn noted(mut self, row: u64, bit: bool) -> State
         requires { (self.at < self.room) × (self.at - self.start < total (boxes_of row)) }
         ensures { result ≡ noted (row_of self.most row) bit self }
     {
         let k = (self.first as u64 + row::box_at(row, self.taken())) as usize;
-        self.at = self.at + 1;
+        self.at += 1;
+        // By index: of what is written through `get_mut` a proof knows nothing.
         if k < SLOTS {
             self.numbers[k] = behind(self.numbers[k], bit);
         }
@@ -160,12 +155,10 @@ impl State {
         if self.taken() < row::bits(row) {
             return self;
         }
-        let broken = row::broken(row, self.most, &self.numbers, self.first as u64);
-        if broken != 0 {
-            return self.stopped(broken);
+        match row::broken(row, self.most, &self.numbers, self.first as u64) {
+            Some(why) => self.stopped(why),
+            None => self.passed(row).arrived(rows),
         }
-        let next = self.passed(row);
-        next.arrived(rows)
     }
 }
 
@@ -173,9 +166,5 @@ impl State {
 fn behind(number: u32, bit: bool) -> u32
     ensures { result ≡ behind number bit }
 {
-    let doubled = number % 2147483648 * 2;
-    if bit {
-        return doubled + 1;
-    }
-    doubled
+    (number << 1) + bit as u32
 }

@@ -9,12 +9,12 @@ pub returns-then-bytes-ne-BYTES : goal.returns-then-bytes-ne-BYTES
 returns-then-bytes-ne-BYTES c = ap event_told (record_short _ _ _ _ c.if-bytes-ne-BYTES.true)
 
 pub with_margin-refusal-requires : goal.with_margin-refusal-requires
-with_margin-refusal-requires c = (rw (c.event-rows.ensures 0, c.if-bytes-ne-BYTES.false) event_fits, search rules)
+with_margin-refusal-requires c = (rw (c.event.ensures 0, c.if-bytes-ne-BYTES.false) event_fits, search rules)
 
 pub returns-then-refusal-ne0 : goal.returns-then-refusal-ne0
-returns-then-refusal-ne0 c = ap event_told (record_stops 36 (c.event-rows.ensures 0) event_slots _ _ c.with_margin-refusal.ensures c.if-bytes-ne-BYTES.false (search rules) c.if-refusal-ne0.true)
+returns-then-refusal-ne0 c = ap event_told (record_stops 36 (c.event.ensures 0) event_slots _ _ c.with_margin-refusal.ensures c.if-bytes-ne-BYTES.false (search rules) c.if-refusal-ne0.true)
 
 pub returns : goal.returns
 returns c =
     rw (c.of-2.ensures, c.of.ensures)
-    (ap event_told (record_gives 36 (c.event-rows.ensures 0) event_slots _ _ c.with_margin-refusal.ensures c.if-bytes-ne-BYTES.false (search rules) c.if-refusal-ne0.false))
+    (ap event_told (record_gives 36 (c.event.ensures 0) event_slots _ _ c.with_margin-refusal.ensures c.if-bytes-ne-BYTES.false (search rules) c.if-refusal-ne0.false))

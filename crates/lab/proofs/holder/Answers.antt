@@ -13,15 +13,15 @@ returns-then-not-is_area c =
 pub with_margin-refusal-requires : goal.with_margin-refusal-requires
 with_margin-refusal-requires c =
     let whole : area_length (length c.args.bytes.now) ≡ true = sym c.is_area.ensures ∙ c.if-not-is_area.false in
-    (rw (c.holder-rows.ensures 0) (holder_fits _ (area_room _ whole)), search rules)
+    (rw (c.holder.ensures 0) (holder_fits _ (area_room _ whole)), search rules)
 
 pub returns-then-refusal-ne0 : goal.returns-then-refusal-ne0
 returns-then-refusal-ne0 c =
     let whole : area_length (length c.args.bytes.now) ≡ true = sym c.is_area.ensures ∙ c.if-not-is_area.false in
-    c.no_holder-then-refusal-ne0.ensures ∙ area_stops 111 (c.holder-rows.ensures 0) holder_slots _ _ c.with_margin-refusal.ensures whole (search rules) c.if-refusal-ne0.true
+    c.no_holder-then-refusal-ne0.ensures ∙ area_stops 111 (c.holder.ensures 0) holder_slots _ _ c.with_margin-refusal.ensures whole (search rules) c.if-refusal-ne0.true
 
 pub returns : goal.returns
 returns c =
     let whole : area_length (length c.args.bytes.now) ≡ true = sym c.is_area.ensures ∙ c.if-not-is_area.false in
     rw c.of.ensures
-    (area_gives 111 (c.holder-rows.ensures 0) holder_slots _ _ c.with_margin-refusal.ensures whole (search rules) c.if-refusal-ne0.false)
+    (area_gives 111 (c.holder.ensures 0) holder_slots _ _ c.with_margin-refusal.ensures whole (search rules) c.if-refusal-ne0.false)

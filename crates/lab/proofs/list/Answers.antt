@@ -1,4 +1,4 @@
-use Rattle.std.proofs.Common.{◌∙◌}
+use Rattle.std.proofs.Common.{sym, ◌∙◌}
 use Rattle.lists.specs.List.{list_fault}
 use Rattle.lists.proofs.Listing.{list_short, list_outside}
 use Rattle.lab.proofs.Answers.{list_stops, list_against, list_gives}
@@ -14,28 +14,27 @@ returns-then-outside c =
     ∙ list_outside _ _ (list_fault c.args.n) _ _ _ c.if-bytes-ne-BYTES.false (rw c.outside.ensures at c.if-outside.true)
 
 pub bare-refusal-requires : goal.bare-refusal-requires
-bare-refusal-requires c = rw (c.contract_list-rows.ensures _, c.if-bytes-ne-BYTES.false) (list_fits _)
+bare-refusal-requires c = rw (c.contract_list.ensures _, c.if-bytes-ne-BYTES.false) (list_fits _)
 
 pub returns-then-refusal-ne0 : goal.returns-then-refusal-ne0
 returns-then-refusal-ne0 c =
     let n = c.args.n in
     let inside = rw c.outside.ensures at c.if-outside.false in
     c.no_list-then-refusal-ne0.ensures
-    ∙ list_stops 49 (c.contract_list-rows.ensures n) (list_slots n) _ _ (list_fault n) c.bare-refusal.ensures c.if-bytes-ne-BYTES.false inside c.if-refusal-ne0.true
+    ∙ list_stops 49 (c.contract_list.ensures n) (list_slots n) _ _ (list_fault n) c.bare-refusal.ensures c.if-bytes-ne-BYTES.false inside c.if-refusal-ne0.true
 
-pub returns-then-fault-ne0 : goal.returns-then-fault-ne0
-returns-then-fault-ne0 c =
+pub returns-in-Some : goal.returns-in-Some
+returns-in-Some c =
     let n = c.args.n in
     let inside = rw c.outside.ensures at c.if-outside.false in
-    let wrong = rw c.at_fault-fault.ensures at c.if-fault-ne0.true in
-    c.no_list-then-fault-ne0.ensures
-    ∙ rw (c.against.ensures, c.at_fault-fault.ensures)
-    (list_against 49 (c.contract_list-rows.ensures n) (list_slots n) _ _ (list_fault n) c.bare-refusal.ensures c.if-bytes-ne-BYTES.false inside c.if-refusal-ne0.false wrong)
+    let fault = c.in-Some.ensures.0 in
+    c.no_list-in-Some.ensures
+    ∙ rw (c.against.ensures, ← fault)
+    (list_against 49 (c.contract_list.ensures n) (list_slots n) _ _ (list_fault n) c.bare-refusal.ensures c.if-bytes-ne-BYTES.false inside c.if-refusal-ne0.false (λ z. c.in-Some.ensures.1 (sym fault ∙ z)))
 
 pub returns : goal.returns
 returns c =
     let n = c.args.n in
     let inside = rw c.outside.ensures at c.if-outside.false in
-    let right = rw c.at_fault-fault.ensures at c.if-fault-ne0.false in
     rw c.of.ensures
-    (list_gives 49 (c.contract_list-rows.ensures n) (list_slots n) _ _ (list_fault n) c.bare-refusal.ensures c.if-bytes-ne-BYTES.false inside c.if-refusal-ne0.false right)
+    (list_gives 49 (c.contract_list.ensures n) (list_slots n) _ _ (list_fault n) c.bare-refusal.ensures c.if-bytes-ne-BYTES.false inside c.if-refusal-ne0.false c.in_default.ensures)

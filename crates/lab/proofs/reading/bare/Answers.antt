@@ -1,4 +1,4 @@
-use Rattle.std.proofs.Common.{map, length, refl, arith, rules}
+use Rattle.std.proofs.Common.{map, length, refl, rules}
 use Rattle.lab.specs.Layout.{row_of}
 use Rattle.lab.proofs.Answers.{row_low, bare_refused, bare_five, bare_all}
 use Rattle.lab.proofs.reading.bare.Goals as goal
@@ -11,10 +11,10 @@ refusal-requires c =
 pub returns-then-state-ne0 : goal.returns-then-state-ne0
 returns-then-state-ne0 c = bare_refused _ _ _ _ _ c.requires c.run-state.ensures c.if-state-ne0.true c.refusal.ensures
 
-pub returns-then-one-bytes : goal.returns-then-one-bytes
-returns-then-one-bytes c = bare_five _ _ _ _ _ c.requires c.run-state.ensures c.if-state-ne0.false _ c.first_one-one.ensures (omega arith) refl
+pub returns-in-Some : goal.returns-in-Some
+returns-in-Some c = bare_five _ _ _ _ _ c.requires c.run-state.ensures c.if-state-ne0.false _ c.in-Some.ensures.0 c.in-Some.ensures.1 refl
 
 pub returns : goal.returns
 returns c =
-    bare_all _ _ _ _ _ c.requires c.run-state.ensures c.if-state-ne0.false _ c.first_one-one.ensures (omega arith) refl
-    (search rules) c.slots.ensures
+    bare_all _ _ _ _ _ c.requires c.run-state.ensures c.if-state-ne0.false c.in_default.ensures refl
+    (search rules) c.copy_from_slice.ensures.after

@@ -14,4 +14,4 @@ returns-then-state-ne0 c = reads_refused _ _ _ _ _ c.requires.0 c.run-state.ensu
 pub returns : goal.returns
 returns c =
     reads_all _ _ _ _ _ c.requires.0 c.run-state.ensures c.if-state-ne0.false refl
-    (search rules) c.slots.ensures (length c.args.margin.now) c.margin.ensures
+    (search rules) c.copy_from_slice.ensures.after (length c.args.margin.now) c.margin.ensures

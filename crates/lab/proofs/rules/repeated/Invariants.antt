@@ -1,4 +1,4 @@
-use Rattle.std.proofs.Common.{◌≡◌, ◌+◌, ◌-◌, ◌*◌, ◌≤◌}
+use Rattle.std.proofs.Common.{◌≡◌, ◌+◌, ◌-◌, ◌*◌}
 use Rattle.rows.specs.Row.{among}
 use Rattle.lists.specs.Listing.{column}
 use Rattle.lab.proofs.rules.repeated.Given as goal
@@ -6,7 +6,4 @@ use Rattle.lab.proofs.rules.repeated.Given as goal
 -- The loop's invariant: none of the entries so far has the pointer.
 abbrev pub invariant-loop-i : goal.invariant-loop-i
 invariant-loop-i l =
-    (l.i ≤ l.k) × (among l.pointer (column l.k l.size l.size l.numbers) ≡ among l.pointer (column (l.k - l.i) l.size (l.size + l.size * l.i) l.numbers))
-
-abbrev pub decreases-loop-i : goal.decreases-loop-i
-decreases-loop-i l = l.k - l.i
+    among l.pointer (column l.k l.size l.size l.numbers) ≡ among l.pointer (column (l.k - l.i) l.size (l.size + l.size * l.i) l.numbers)

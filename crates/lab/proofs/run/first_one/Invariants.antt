@@ -1,4 +1,4 @@
-use Rattle.std.proofs.Common.{◌≡◌, ◌+◌, ◌-◌, ◌*◌, length, drop}
+use Rattle.std.proofs.Common.{◌≡◌, ◌+◌, drop}
 use Rattle.bits.specs.Bits.{spread, cleared, leading}
 use Rattle.lab.proofs.run.first_one.Given as goal
 
@@ -6,6 +6,3 @@ use Rattle.lab.proofs.run.first_one.Given as goal
 abbrev pub invariant-loop-place : goal.invariant-loop-place
 invariant-loop-place l =
     leading (cleared l.from (spread 8 l.bytes)) ≡ l.place + leading (drop l.place (spread 8 l.bytes))
-
-abbrev pub decreases-loop-place : goal.decreases-loop-place
-decreases-loop-place l = 8 * length l.bytes - l.place

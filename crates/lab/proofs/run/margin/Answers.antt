@@ -6,9 +6,8 @@ use Rattle.lab.proofs.run.margin.Goals as goal
 
 pub loop-k-preserved : goal.loop-k-preserved
 loop-k-preserved c =
-    let a = c.args in
-    let bits = cleared a.end (spread 8 a.bytes.now) in
-    (search rules, filled_more (c.loop-k.k + 1) refl c.loop-k.invariant.1 (search rules) (c.word.ensures ∙ sym (part_padded 64 (64 * c.loop-k.k) bits)))
+    let bits = cleared c.args.end (spread 8 c.args.bytes.now) in
+    filled_more (c.loop-k.k + 1) refl c.loop-k.invariant (search rules) (c.margin_word.ensures ∙ sym (part_padded 64 (64 * c.loop-k.k) bits))
 
 pub returns : goal.returns
-returns c = filled_all c.loop-k.invariant.1 (search rules)
+returns c = filled_all c.loop-k.invariant (search rules)

@@ -1,11 +1,8 @@
-use Rattle.std.proofs.Common.{◌-◌, ◌≤◌, length}
+use Rattle.std.proofs.Common.{length}
 use Rattle.bits.specs.Bits.{spread, cleared}
 use Rattle.bits.proofs.Cutting.{Filled}
 use Rattle.lab.proofs.run.margin.Given as goal
 
 -- The loop's invariant: the words so far are those of the cut.
 abbrev pub invariant-loop-k : goal.invariant-loop-k
-invariant-loop-k l = (l.k ≤ length l.initial.words) × Filled 64 64 (length l.initial.words) (cleared l.end (spread 8 l.bytes)) l.k l.words
-
-abbrev pub decreases-loop-k : goal.decreases-loop-k
-decreases-loop-k l = length l.initial.words - l.k
+invariant-loop-k l = Filled 64 64 (length l.initial.words) (cleared l.end (spread 8 l.bytes)) l.k l.words

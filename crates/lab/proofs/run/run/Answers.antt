@@ -1,21 +1,21 @@
-use Rattle.std.proofs.Common.{◌<◌, ◌≤◌, length, ◌∙◌, arith, drop_of_length-le, rules}
+use Rattle.std.proofs.Common.{◌<◌, ◌≤◌, length, ◌∙◌, arith, drop_of_length-le}
 use Rattle.bits.specs.Bits.{spread}
 use Rattle.bits.proofs.Cutting.{length-spread}
 use Rattle.lab.proofs.Running.{begun_most, run_from}
 use Rattle.lab.proofs.run.run.Goals as goal
 
 pub loop-place-init : goal.loop-place-init
-loop-place-init c = (search rules, rw (c.begin-state.ensures, begun_most))
+loop-place-init c = rw (c.begin-state.ensures, begun_most)
 
 pub loop-place-preserved : goal.loop-place-preserved
 loop-place-preserved c =
     let a = c.args in
     let bits = spread 8 a.bytes.now in
     let inside : c.loop-place.place < length bits = rw length-spread (omega arith) in
-    (search rules, rw (c.step-state.ensures, c.bit_at.ensures) (run_from a.rows.now c.loop-place.state bits c.loop-place.place inside ∙ c.loop-place.invariant.1))
+    rw (c.step-state.ensures, c.bit_at.ensures) (run_from a.rows.now c.loop-place.state bits c.loop-place.place inside ∙ c.loop-place.invariant)
 
 pub returns : goal.returns
 returns c =
     let bits = spread 8 c.args.bytes.now in
     let past : length bits ≤ c.loop-place.place = rw length-spread (omega arith) in
-    rw (drop_of_length-le bits past, c.begin-state.ensures) at c.loop-place.invariant.1
+    rw (drop_of_length-le bits past, c.begin-state.ensures) at c.loop-place.invariant

@@ -1,4 +1,4 @@
-use Rattle.std.proofs.Common.{◌≡◌, ◌-◌, ◌*◌, ◌≤◌, map, length, drop}
+use Rattle.std.proofs.Common.{◌≡◌, map, drop}
 use Rattle.bits.specs.Bits.{spread}
 use Rattle.lab.specs.Layout.{row_of}
 use Rattle.lab.specs.Machine.{run}
@@ -7,7 +7,4 @@ use Rattle.lab.proofs.run.run.Given as goal
 -- The loop's invariant: the run from here is the run from the start.
 abbrev pub invariant-loop-place : goal.invariant-loop-place
 invariant-loop-place l =
-    (l.place ≤ 8 * length l.bytes) × (run (map (row_of l.state.most) l.rows) l.state (drop l.place (spread 8 l.bytes)) ≡ run (map (row_of l.most) l.rows) l.initial.state (spread 8 l.bytes))
-
-abbrev pub decreases-loop-place : goal.decreases-loop-place
-decreases-loop-place l = 8 * length l.bytes - l.place
+    run (map (row_of l.state.most) l.rows) l.state (drop l.place (spread 8 l.bytes)) ≡ run (map (row_of l.most) l.rows) l.initial.state (spread 8 l.bytes)

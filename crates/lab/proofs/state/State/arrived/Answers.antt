@@ -1,10 +1,26 @@
+use Rattle.std.proofs.Common.{◌≡◌, ◌-◌, ◌<◌, length, take, drop, get_or, arith, length-take, length-drop, get_or-take, get_or-drop}
 use Rattle.lab.proofs.Rows.{rows_from}
 use Rattle.lab.proofs.state.State.arrived.Goals as goal
+use Rattle.lab.proofs.state.State.arrived.Goals.{After-there}
+
+-- The row of the loop is that which the state is in.
+module _ (c : After-there) where
+  below : c.loop-row.row-index < length c.args.rows.now - c.args.self.row
+  below = omega (arith, simp (length-take, length-drop) at c.loop-row-test.true)
+
+  inside : c.loop-row.s.row < length c.args.rows.now
+  inside = let index = below in omega arith
+
+  own : get_or (take (length c.args.rows.now - c.args.self.row) (drop c.args.self.row c.args.rows.now)) c.loop-row.row-index 0
+      ≡ get_or c.args.rows.now c.loop-row.s.row 0
+  own = let index = below in rw (c.loop-row.invariant.0, get_or-take, get_or-drop)
 
 pub returns-then-there : goal.returns-then-there
 returns-then-there c =
-    rw (← c.loop-s.invariant, rows_from _ _ _ c.loop-s-test.true, ← c.there.ensures, c.if-there.true) c.entered.ensures
+    let at = (goal.at.returns-then-there c).After-there in
+    rw (← c.loop-row.invariant.1, rows_from _ _ _ (inside at), ← (rw (own at) at c.there.ensures), c.if-there.true) (rw (own at) at c.entered.ensures)
 
-pub loop-s-preserved : goal.loop-s-preserved
-loop-s-preserved c =
-    rw (c.passed-s.ensures, ← c.loop-s.invariant, rows_from _ _ _ c.loop-s-test.true, ← c.there.ensures, c.if-there.false)
+pub loop-row-preserved : goal.loop-row-preserved
+loop-row-preserved c =
+    let at = (goal.at.loop-row-preserved c).After-there in
+    (rw c.passed-s.ensures (omega arith), rw (c.passed-s.ensures, own at, ← c.loop-row.invariant.1, rows_from _ _ _ (inside at), ← (rw (own at) at c.there.ensures), c.if-there.false))

@@ -1,8 +1,8 @@
-use Rattle.std.proofs.Common.{◌≡◌, false, get_or, ℕ, ◌+◌, ◌*◌, ◌^◌, ◌<◌, ◌≤◌, Bool, List, ◌∙◌, arith, pow_mono, rules}
+use Rattle.std.proofs.Common.{◌≡◌, false, get_or, ℕ, ◌+◌, ◌*◌, ◌^◌, ◌<◌, ◌≤◌, Bool, List, ◌∙◌, arith, pow_mono}
 use Rattle.bits.specs.Bits.{bit, spread, cleared}
 use Rattle.bits.proofs.Fronts.{part, part_add, part_lt, part_padded}
 use Rattle.bits.proofs.Cutting.{part_one}
-use Rattle.lab.proofs.run.word.Goals as goal
+use Rattle.lab.proofs.run.margin_word.Goals as goal
 
 -- Up to 64 bits fit a word.
 fits : (k at : ℕ) (bs : List Bool) → k ≤ 64 → part k at bs < 2 ^ 64
@@ -21,12 +21,12 @@ overflow_mul-word c =
 pub overflow_add-word : goal.overflow_add-word
 overflow_add-word c =
     let bits = cleared c.args.end (spread 8 c.args.bytes.now) in
-    omega (arith, made bits _ c.loop-k.k _ c.loop-k.invariant.1 c.margin_bit.ensures, fits (c.loop-k.k + 1) c.args.from bits (omega arith))
+    omega (arith, made bits _ c.loop-k.k _ c.loop-k.invariant c.margin_bit.ensures, fits (c.loop-k.k + 1) c.args.from bits (omega arith))
 
 pub loop-k-preserved : goal.loop-k-preserved
-loop-k-preserved c = (search rules, made _ _ c.loop-k.k _ c.loop-k.invariant.1 c.margin_bit.ensures)
+loop-k-preserved c = made _ _ c.loop-k.k _ c.loop-k.invariant c.margin_bit.ensures
 
 pub returns : goal.returns
 returns c =
     let all : c.loop-k.k ≡ 64 = omega arith in
-    rw all at c.loop-k.invariant.1 ∙ part_padded 64 c.args.from (cleared c.args.end (spread 8 c.args.bytes.now))
+    rw all at c.loop-k.invariant ∙ part_padded 64 c.args.from (cleared c.args.end (spread 8 c.args.bytes.now))
