@@ -1,7 +1,7 @@
 -- The loops of the contract list's reader and writer: an entry more of the table's line, and the line of the whole table.
 use Prim.Native.Nat.{ℕ, zero, suc, ◌+◌, ◌-◌, ◌*◌, ◌/◌, ◌%◌, ◌^◌, ◌≤◌, ◌<◌}
 use mathlib.Core.List.{List, [], ◌∷◌, ◌++◌, append-nil, append_assoc}
-use mathlib.Core.Bool.{Bool, true, false, ◌&&◌}
+use mathlib.Core.Bool.{Bool, true, false, not, ◌&&◌}
 use mathlib.Core.Path.{◌≡◌, refl, sym, ap, ◌∙◌}
 use native.Mathlib.Omega.{arith}
 use native.Mathlib.Numerals.{add-one}
@@ -17,6 +17,7 @@ use Rattle.bits.proofs.Cutting.{length-spread}
 use Rattle.rows.specs.Row.{Row, always, box_most, pick}
 use Rattle.rows.specs.Walk.{done, refused, and_then, field, exceeds}
 use Rattle.rows.specs.Inner.Step.{passes, admitted, resume, Ready, Took, Drafted, Ended}
+use Rattle.rows.proofs.Stepping.{clear}
 use Rattle.rows.specs.Inner.Line.{start, Takes, taken, ◌▸◌, Taken, Puts}
 use Rattle.rows.specs.Table.BestContracts.{entry, contract_list}
 use Rattle.rows.specs.Inner.Standing.{Standing}
@@ -107,11 +108,15 @@ took_most words end c d w m bs long cuts clear few ok took =
 admitted_there : (c : Standing) (w : ℕ) → c.why ≡ 0 → c.at + w ≤ 232 → passes c 1 w 0 ≡ admitted c 232 w false 0 0
 admitted_there c w clear room = rw (eq-eqb _ _ clear, le-ltb _ _ room)
 
-pub test_all : (marks why at : ℕ) → (eqb (marks / 2) 3 && eqb why 0) && leb at 211 ≡ true → (marks / 2 ≡ 3) × (why ≡ 0) × (at ≤ 211)
-test_all marks why at h =
-    let (clear, room) = both _ _ h in
-    let (there, none) = both _ _ clear in
-    (eqb-true _ _ there, eqb-true _ _ none, leb-true _ _ room)
+pub test_all : (marks why at : ℕ) {b : Bool} → b ≡ not (eqb why 0) → (eqb (marks / 2) 3 && not b) && leb at 211 ≡ true → (marks / 2 ≡ 3) × (why ≡ 0) × (at ≤ 211)
+test_all marks why at {b} e h =
+    let (first, room) = both _ _ h in
+    let (there, none) = both _ _ first in
+    (eqb-true _ _ there, clear e (go b none), leb-true _ _ room)
+  where
+    go : (q : Bool) → not q ≡ true → q ≡ false
+    go false h = refl
+    go true h = cc
 
 pub rest_took : (words : List ℕ) (c : Standing) (marks v : ℕ)
     → Ready words 232 c

@@ -1,11 +1,11 @@
 -- The contract list as a value: its count and its entries, in the order of the table's slots, and its tally.
-use Rattle.std.specs.Prelude.{ℕ, ◌+◌, List, [], ◌∷◌, ◌++◌, Bool, ◌||◌, eqb, ltb, get_or, take}
+use Rattle.std.specs.Prelude.{ℕ, ◌+◌, List, [], ◌∷◌, ◌++◌, Bool, ◌||◌, eqb, ltb, get_or, take, Result, Ok, Err}
 use Rattle.rows.specs.Row.{pick}
 use Rattle.rows.specs.Table.BestContracts.{contract_list}
-use Rattle.records.specs.Answer.{Written, refusal, denied}
+use Rattle.records.specs.Answer.{Answer, Written, as_answer, refusal, denied}
+use Rattle.records.specs.declared.Refusal.{Refusal}
 use Rattle.lists.specs.Listing.{at_fault, read_list, write_list}
 use Rattle.lists.specs.Tally.{tally_of, same_tally}
-use Rattle.records.specs.Answer.{Answer}
 use Rattle.lists.specs.declared.list.Entry.{Entry}
 use Rattle.lists.specs.declared.list.ContractList.{ContractList}
 use Rattle.lists.specs.declared.tally.Positions.{Positions}
@@ -68,6 +68,11 @@ outside n c = ltb n 1 || ltb 8 n || ltb 4 c || ltb n c
 abbrev pub list_fault : ℕ → List ℕ → ℕ
 list_fault n vals = at_fault 8 6 3 n vals
 
+-- The answer to a reading.
+pub record ListRead : Type 0 where
+  pub refusal : Answer
+  pub list : ContractList
+
 abbrev pub got_list : ContractList → ListRead
 got_list l = record { refusal = refusal 0 0; list = l }
 
@@ -81,6 +86,11 @@ no_tally = record { counter = no_positions; plain = no_positions }
 -- Refused, the list is all zeros, its tally too.
 abbrev pub no_list : Answer → ListRead
 no_list r = record { refusal = r; list = record { count = 0; entries = entries_of []; tally = no_tally } }
+
+-- The answer that code gives.
+abbrev pub list_answer : Result ContractList Refusal → ListRead
+list_answer (Ok l) = got_list l
+list_answer (Err r) = no_list (as_answer r)
 
 abbrev pub list_read : ℕ → ℕ → List ℕ → ListRead
 list_read n c bytes = read_list (λ vals. got_list (list_of c vals)) no_list (list_fault n) (outside n c) (contract_list n) bytes

@@ -1,9 +1,9 @@
 -- The special event list as a value: its count and its entries, in the order of the table's slots.
-use Rattle.std.specs.Prelude.{ℕ, ◌+◌, List, [], ◌∷◌, ◌++◌, ltb, get_or}
+use Rattle.std.specs.Prelude.{ℕ, ◌+◌, List, [], ◌∷◌, ◌++◌, ltb, get_or, Result, Ok, Err}
 use Rattle.rows.specs.Table.Special.{special_list}
-use Rattle.records.specs.Answer.{Written, refusal}
+use Rattle.records.specs.Answer.{Answer, Written, as_answer, refusal}
+use Rattle.records.specs.declared.Refusal.{Refusal}
 use Rattle.lists.specs.Listing.{at_fault, read_list, write_list}
-use Rattle.records.specs.Answer.{Answer}
 use Rattle.lists.specs.declared.special.SpecialEntry.{SpecialEntry}
 use Rattle.lists.specs.declared.special.SpecialList.{SpecialList}
 
@@ -43,12 +43,22 @@ special_of vals =
 abbrev pub special_fault : ℕ → List ℕ → ℕ
 special_fault s vals = at_fault 4 5 7 s vals
 
+-- The answer to a reading.
+pub record SpecialRead : Type 0 where
+  pub refusal : Answer
+  pub list : SpecialList
+
 abbrev pub got_special : SpecialList → SpecialRead
 got_special l = record { refusal = refusal 0 0; list = l }
 
 -- Refused, the list is all zeros.
 abbrev pub no_special : Answer → SpecialRead
 no_special r = record { refusal = r; list = special_of [] }
+
+-- The answer that code gives.
+abbrev pub special_answer : Result SpecialList Refusal → SpecialRead
+special_answer (Ok l) = got_special l
+special_answer (Err r) = no_special (as_answer r)
 
 -- A card has 0 to 4 special event records.
 abbrev pub special_read : ℕ → List ℕ → SpecialRead

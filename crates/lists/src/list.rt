@@ -1,20 +1,21 @@
 // Contract list (BestContracts).
 ghost use Rattle.std.specs.Prelude.{◌≡◌, [], ◌∷◌, ◌+◌, ◌*◌, ◌≤◌, length};
+ghost use Rattle.rows.specs.Inner.Standing.{stand};
 ghost use Rattle.rows.specs.Inner.Step.{Ready, Drafted};
 ghost use Rattle.rows.specs.Inner.Line.{start, Puts};
 ghost use Rattle.rows.specs.Table.BestContracts.{entry, contract_list};
 ghost use Rattle.lists.specs.Inner.Steps.{obeyed, tallied, EntryTook, RestTook, EntryGave};
 ghost use Rattle.lists.specs.Inner.Judging.{Recounts};
-ghost use Rattle.lists.specs.List.{entry_numbers, entry_of, numbers_of, list_of, outside, list_fault, list_read, list_written, no_list, fair};
+ghost use Rattle.lists.specs.List.{entry_numbers, entry_of, numbers_of, list_of, outside, list_fault, list_read, list_written, list_answer, fair};
 ghost use Rattle.lists.specs.Entries.{counted, with_priority, appended, without_pointer};
 ghost use Rattle.lists.specs.Tally.{used_up, tally_of, free_of};
-ghost use Rattle.records.specs.Answer.{Written};
+ghost use Rattle.records.specs.Answer.{Written, answer_of};
 
 use crate::rules;
 use crate::rules::{COUNT_BITS, Judged};
 use crate::tally::{Spent, Tally};
 use records::{BITS, BYTES, Refusal};
-use rows::take::ListTariff;
+use rows::take::{ListTariff, Part};
 use rows::{Cursor, When, put, take};
 use std::array;
 
@@ -35,12 +36,6 @@ pub struct ContractList {
     pub count: u32,
     pub entries: [Entry; 8],
     pub tally: Tally,
-}
-
-#[derive(Clone, Copy)]
-pub struct ListRead {
-    pub refusal: Refusal,
-    pub list: ContractList,
 }
 
 impl Entry {
@@ -330,21 +325,13 @@ struct Recount {
     spent: Spent,
 }
 
-// An entry's numbers, and the cursor behind it.
+// An entry's tariff and pointer.
 #[derive(Clone, Copy)]
-struct EntryTaken {
-    entry: Entry,
-    last: Cursor,
-}
-
-// An entry's tariff and pointer, and the cursor behind them.
-#[derive(Clone, Copy)]
-struct RestTaken {
+struct Rest {
     key: u32,
     kind: u32,
     priority: u32,
     pointer: u32,
-    last: Cursor,
 }
 
 // Whether n is no number of contract records that a card may have, or c none of counter positions among them.
@@ -355,21 +342,19 @@ pub fn outside(n: u32, c: u32) -> bool
 }
 
 // The contract list in a lent record, on a card with n contract records, the first c of them with counters.
-pub fn read(bytes: &[u8], n: u32, c: u32) -> ListRead
-    ensures { result ≡ list_read n c bytes.now }
+pub fn read(bytes: &[u8], n: u32, c: u32) -> Result<ContractList, Refusal>
+    ensures { list_answer result ≡ list_read n c bytes.now }
 {
     if bytes.len() != BYTES {
-        return refused(Refusal::WRONG_LENGTH);
+        return Err(Refusal::WRONG_LENGTH);
     }
     if outside(n, c) {
-        return refused(Refusal::OUTSIDE_LIMITS);
+        return Err(Refusal::OUTSIDE_LIMITS);
     }
     let mut words = [0u64; 8];
     bits::words(&bytes[..], &mut words);
     let head = take::at_most(&words, BITS, Cursor::START, When::Always, COUNT_BITS, n);
-    if head.why != 0 {
-        return refused(Refusal::met(head));
-    }
+    Refusal::met(head)?;
     let count = head.number;
     let mut list = ContractList::NONE;
     list.count = count;
@@ -378,38 +363,22 @@ pub fn read(bytes: &[u8], n: u32, c: u32) -> ListRead
     let mut last = head;
     for k in 0..count {
         let taken = take_entry(&words, last, count, k);
-        let entry = taken.entry;
+        let entry = taken.value;
         last = taken.last;
-        if last.why != 0 {
-            return refused(Refusal::met(last));
-        }
+        Refusal::met(last)?;
         list.entries[k as usize] = entry;
         spent = spent.with(c, entry.pointer, entry.priority);
         judged = judged.with(k + 1, entry.bitmap, entry.pointer, Entry::FULL, n);
     }
     let end = rules::obeyed(take::end(&words, BITS, last), judged.fault);
-    if end.why != 0 {
-        return refused(Refusal::met(end));
-    }
+    Refusal::met(end)?;
     list.tally = spent.tally(c, judged.used);
-    ListRead {
-        refusal: Refusal::NONE,
-        list,
-    }
+    Ok(list)
 }
 
-fn refused(refusal: Refusal) -> ListRead
-    ensures { result ≡ no_list refusal }
-{
-    ListRead {
-        refusal,
-        list: ContractList::NONE,
-    }
-}
-
-fn take_entry(words: &[u64], c: Cursor, count: u32, k: u32) -> EntryTaken
-    requires { Ready words.now 232 c }
-    ensures { EntryTook words.now (entry k) (1 + 6 * k) count c (entry_numbers result.entry) result.last }
+fn take_entry(words: &[u64], c: Cursor, count: u32, k: u32) -> Part<Entry>
+    requires { Ready words.now 232 (stand c) }
+    ensures { EntryTook words.now (entry k) (1 + 6 * k) count (stand c) (entry_numbers result.value) (stand result.last) }
 {
     let bitmap = take::number(words, BITS, c, When::Above(count, k), Entry::BITMAP_BITS);
     let marks = bitmap.number;
@@ -420,10 +389,10 @@ fn take_entry(words: &[u64], c: Cursor, count: u32, k: u32) -> EntryTaken
         When::Bit(marks, 0),
         Entry::NETWORK_BITS,
     );
-    let rest = take_rest(words, network, marks);
-    let last = rest.last;
-    EntryTaken {
-        entry: Entry {
+    let behind = take_rest(words, network, marks);
+    let rest = behind.value;
+    Part {
+        value: Entry {
             bitmap: marks,
             network: network.number,
             key: rest.key,
@@ -431,27 +400,28 @@ fn take_entry(words: &[u64], c: Cursor, count: u32, k: u32) -> EntryTaken
             priority: rest.priority,
             pointer: rest.pointer,
         },
-        last,
+        last: behind.last,
     }
 }
 
 // What follows an entry's network: one number where all of it is there, in its room and its limits; else a field at a time.
-fn take_rest(words: &[u64], c: Cursor, marks: u32) -> RestTaken
-    requires { Ready words.now 232 c }
-    ensures { RestTook words.now c marks (result.key ∷ result.kind ∷ result.priority ∷ []) result.pointer result.last }
+fn take_rest(words: &[u64], c: Cursor, marks: u32) -> Part<Rest>
+    requires { Ready words.now 232 (stand c) }
+    ensures { RestTook words.now (stand c) marks (result.value.key ∷ result.value.kind ∷ result.value.priority ∷ []) result.value.pointer (stand result.last) }
 {
-    if (marks / 2 == Entry::FULL) & (c.why == 0) & (c.at <= Entry::LAST_REST) {
+    if (marks / 2 == Entry::FULL) & !c.is_refused() & (c.at <= Entry::LAST_REST) {
         let v = bits::number(words, c.at, Entry::REST_BITS);
         let tariff = v / Entry::POINTERS;
         let priority = tariff % ListTariff::PRIORITIES;
         if priority != ListTariff::UNDEFINED {
-            return RestTaken {
+            let value = Rest {
                 key: tariff / ListTariff::KEY_UNIT % ListTariff::KEYS,
                 kind: tariff / ListTariff::PRIORITIES % ListTariff::KINDS,
                 priority,
                 pointer: v % Entry::POINTERS,
-                last: c.passed(2, Entry::REST_BITS, 0),
             };
+            let last = c.passed(2, Entry::REST_BITS, 0);
+            return Part { value, last };
         }
     }
     let tariff = take::tariff(words, BITS, c, When::Bit(marks, 1));
@@ -463,24 +433,26 @@ fn take_rest(words: &[u64], c: Cursor, marks: u32) -> RestTaken
         When::Bit(marks, 2),
         Entry::POINTER_BITS,
     );
-    RestTaken {
-        key: tariff.key,
-        kind: tariff.kind,
-        priority: tariff.priority,
-        pointer: pointer.number,
+    Part {
+        value: Rest {
+            key: tariff.key,
+            kind: tariff.kind,
+            priority: tariff.priority,
+            pointer: pointer.number,
+        },
         last: pointer,
     }
 }
 
 // Writes a contract list to a lent record, all of it; refused, the record is as it was.
-pub fn write(bytes: &mut [u8], n: u32, c: u32, list: ContractList) -> Refusal
-    ensures { record { answer = result; bytes = bytes.new } ≡ list_written n c list bytes.old }
+pub fn write(bytes: &mut [u8], n: u32, c: u32, list: ContractList) -> Result<(), Refusal>
+    ensures { record { answer = answer_of result; bytes = bytes.new } ≡ list_written n c list bytes.old }
 {
     if bytes.len() != BYTES {
-        return Refusal::WRONG_LENGTH;
+        return Err(Refusal::WRONG_LENGTH);
     }
     if outside(n, c) {
-        return Refusal::OUTSIDE_LIMITS;
+        return Err(Refusal::OUTSIDE_LIMITS);
     }
     let mut draft = [0u64; 9];
     let end = put_list(&mut draft, n, list);
@@ -492,13 +464,13 @@ pub fn write(bytes: &mut [u8], n: u32, c: u32, list: ContractList) -> Refusal
 // The cursor after the rule and the tally. Only of entries that keep the rule the mask is that of their pointers.
 fn held(end: Cursor, list: ContractList, n: u32, c: u32) -> Cursor
     requires { (n ≤ 8) × (c ≤ 8) }
-    ensures { result ≡ tallied (obeyed end (list_fault n (numbers_of list))) (fair c list) }
+    ensures { stand result ≡ tallied (obeyed (stand end) (list_fault n (numbers_of list))) (fair c list) }
 {
     let recount = list.recounted(n, c);
     let judged = recount.judged;
     let spent = recount.spent;
     let ruled = rules::obeyed(end, judged.fault);
-    if ruled.why != 0 {
+    if ruled.is_refused() {
         return ruled;
     }
     let fresh = spent.tally(c, judged.used);
@@ -506,8 +478,8 @@ fn held(end: Cursor, list: ContractList, n: u32, c: u32) -> Cursor
 }
 
 fn put_entry(draft: &mut [u64], c: Cursor, count: u32, k: u32, e: Entry) -> Cursor
-    requires { Drafted draft.old 232 c }
-    ensures { EntryGave draft.old draft.new (entry k) (1 + 6 * k) count c (entry_numbers e) result }
+    requires { Drafted draft.old 232 (stand c) }
+    ensures { EntryGave draft.old draft.new (entry k) (1 + 6 * k) count (stand c) (entry_numbers e) (stand result) }
 {
     let bitmap = put::number(
         draft,
@@ -546,7 +518,7 @@ fn put_entry(draft: &mut [u64], c: Cursor, count: u32, k: u32, e: Entry) -> Curs
 
 fn put_list(draft: &mut [u64], n: u32, list: ContractList) -> Cursor
     requires { length draft.old ≡ 9 }
-    ensures { Puts 232 (numbers_of list) (contract_list n) [] draft.old start (numbers_of list) draft.new result }
+    ensures { Puts 232 (numbers_of list) (contract_list n) [] draft.old start (numbers_of list) draft.new (stand result) }
 {
     let count = list.count;
     let head = put::at_most(

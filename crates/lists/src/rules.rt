@@ -1,9 +1,10 @@
 // The rule of both lists: every element but the network present, pointers distinct and within their limit, else 6.
 ghost use Rattle.std.specs.Prelude.{◌≡◌, List, [], ◌∷◌, ◌++◌, ℕ, suc, ◌≤◌, length};
+ghost use Rattle.rows.specs.Inner.Standing.{stand};
 ghost use Rattle.lists.specs.Inner.Steps.{obeyed, tallied};
 ghost use Rattle.lists.specs.Inner.Judging.{optional, Judges};
 
-use rows::Cursor;
+use rows::{Cursor, Why};
 
 // The width of a list's count.
 pub const COUNT_BITS: u32 = 4;
@@ -47,16 +48,16 @@ impl Judged {
 
 // The cursor after the rule: 6 at the entry at fault, where nothing else was refused.
 pub fn obeyed(c: Cursor, fault: Option<u32>) -> Cursor
-    ensures { (k : ℕ) → fault ≡ optional k → result ≡ obeyed c k }
+    ensures { (k : ℕ) → fault ≡ optional k → stand result ≡ obeyed (stand c) k }
 {
-    if c.why != 0 {
+    if c.is_refused() {
         return c;
     }
     match fault {
         None => c,
         Some(k) => Cursor {
             at: k,
-            why: 6,
+            why: Some(Why::ListRule),
             field: 0,
             number: 0,
         },
@@ -65,14 +66,14 @@ pub fn obeyed(c: Cursor, fault: Option<u32>) -> Cursor
 
 // The cursor after the tally: 6 at place 0 where it is no fresh count and nothing else was refused.
 pub fn fair(c: Cursor, is_fair: bool) -> Cursor
-    ensures { result ≡ tallied c is_fair }
+    ensures { stand result ≡ tallied (stand c) is_fair }
 {
-    if is_fair | (c.why != 0) {
+    if is_fair | c.is_refused() {
         return c;
     }
     Cursor {
         at: 0,
-        why: 6,
+        why: Some(Why::ListRule),
         field: 0,
         number: 0,
     }

@@ -1,16 +1,18 @@
 // Special event list.
 ghost use Rattle.std.specs.Prelude.{◌≡◌, [], ◌+◌, ◌*◌, ◌≤◌, length, take};
+ghost use Rattle.rows.specs.Inner.Standing.{stand};
 ghost use Rattle.rows.specs.Inner.Step.{Ready, Drafted};
 ghost use Rattle.rows.specs.Inner.Line.{start, Taken, Puts};
 ghost use Rattle.rows.specs.Table.Special.{entry, special_list};
-ghost use Rattle.records.specs.Answer.{Written};
+ghost use Rattle.records.specs.Answer.{Written, answer_of};
 ghost use Rattle.lists.specs.Inner.Steps.{EntryTook, EntryGave};
 ghost use Rattle.lists.specs.Inner.Judging.{optional};
-ghost use Rattle.lists.specs.Special.{entry_numbers, entry_of, numbers_of, special_of, special_fault, special_read, special_written, no_special};
+ghost use Rattle.lists.specs.Special.{entry_numbers, entry_of, numbers_of, special_of, special_fault, special_read, special_written, special_answer};
 
 use crate::rules;
 use crate::rules::{COUNT_BITS, Judged};
 use records::{BITS, BYTES, Refusal};
+use rows::take::Part;
 use rows::{Cursor, When, put, take};
 use std::array;
 
@@ -28,12 +30,6 @@ pub struct SpecialEntry {
 pub struct SpecialList {
     pub count: u32,
     pub entries: [SpecialEntry; 4],
-}
-
-#[derive(Clone, Copy)]
-pub struct SpecialRead {
-    pub refusal: Refusal,
-    pub list: SpecialList,
 }
 
 impl SpecialEntry {
@@ -114,57 +110,29 @@ impl SpecialList {
     }
 }
 
-// An entry's numbers, and the cursor behind it.
-#[derive(Clone, Copy)]
-struct EntryTaken {
-    entry: SpecialEntry,
-    last: Cursor,
-}
-
-// The list's numbers, and the cursor behind the last entry.
-#[derive(Clone, Copy)]
-struct ListTaken {
-    list: SpecialList,
-    last: Cursor,
-}
-
 // The special event list in a lent record, on a card with s special event records.
-pub fn read(bytes: &[u8], s: u32) -> SpecialRead
-    ensures { result ≡ special_read s bytes.now }
+pub fn read(bytes: &[u8], s: u32) -> Result<SpecialList, Refusal>
+    ensures { special_answer result ≡ special_read s bytes.now }
 {
     if bytes.len() != BYTES {
-        return refused(Refusal::WRONG_LENGTH);
+        return Err(Refusal::WRONG_LENGTH);
     }
     if SpecialList::MOST < s {
-        return refused(Refusal::OUTSIDE_LIMITS);
+        return Err(Refusal::OUTSIDE_LIMITS);
     }
     let mut words = [0u64; 8];
     bits::words(&bytes[..], &mut words);
     let taken = take_list(&words);
-    let list = taken.list;
+    let list = taken.value;
     let end = take::end(&words, BITS, taken.last);
     let last = rules::obeyed(end, at_fault(list, s));
-    if last.why != 0 {
-        return refused(Refusal::met(last));
-    }
-    SpecialRead {
-        refusal: Refusal::NONE,
-        list,
-    }
+    Refusal::met(last)?;
+    Ok(list)
 }
 
-fn refused(refusal: Refusal) -> SpecialRead
-    ensures { result ≡ no_special refusal }
-{
-    SpecialRead {
-        refusal,
-        list: SpecialList::NONE,
-    }
-}
-
-fn take_entry(words: &[u64], c: Cursor, count: u32, k: u32) -> EntryTaken
-    requires { Ready words.now 232 c }
-    ensures { EntryTook words.now (entry k) (1 + 5 * k) count c (entry_numbers result.entry) result.last }
+fn take_entry(words: &[u64], c: Cursor, count: u32, k: u32) -> Part<SpecialEntry>
+    requires { Ready words.now 232 (stand c) }
+    ensures { EntryTook words.now (entry k) (1 + 5 * k) count (stand c) (entry_numbers result.value) (stand result.last) }
 {
     let bitmap = take::number(words, BITS, c, When::Above(count, k), 4);
     let marks = bitmap.number;
@@ -172,8 +140,8 @@ fn take_entry(words: &[u64], c: Cursor, count: u32, k: u32) -> EntryTaken
     let provider = take::number(words, BITS, network, When::Bit(marks, 1), 8);
     let seriousness = take::number(words, BITS, provider, When::Bit(marks, 2), 2);
     let pointer = take::number(words, BITS, seriousness, When::Bit(marks, 3), 5);
-    EntryTaken {
-        entry: SpecialEntry {
+    Part {
+        value: SpecialEntry {
             bitmap: marks,
             network: network.number,
             provider: provider.number,
@@ -184,9 +152,9 @@ fn take_entry(words: &[u64], c: Cursor, count: u32, k: u32) -> EntryTaken
     }
 }
 
-fn take_list(words: &[u64]) -> ListTaken
+fn take_list(words: &[u64]) -> Part<SpecialList>
     requires { length words.now ≡ 8 }
-    ensures { Taken words.now 232 special_list [] start (numbers_of result.list) result.last }
+    ensures { Taken words.now 232 special_list [] start (numbers_of result.value) (stand result.last) }
 {
     let most = SpecialList::MOST;
     let head = take::at_most(words, BITS, Cursor::START, When::Always, COUNT_BITS, most);
@@ -196,11 +164,11 @@ fn take_list(words: &[u64]) -> ListTaken
     let mut last = head;
     for k in 0..4 {
         let taken = take_entry(words, last, count, k as u32);
-        let entry = taken.entry;
+        let entry = taken.value;
         last = taken.last;
         list.entries[k] = entry;
     }
-    ListTaken { list, last }
+    Part { value: list, last }
 }
 
 // The number, from 1, of the first of the counted entries that breaks the list rule.
@@ -210,20 +178,26 @@ fn at_fault(list: SpecialList, s: u32) -> Option<u32>
 {
     let mut judged = Judged::NONE;
     for (i, entry) in list.counted().iter().enumerate() {
-        judged = judged.with(i as u32 + 1, entry.bitmap, entry.pointer, SpecialEntry::FULL, s);
+        judged = judged.with(
+            i as u32 + 1,
+            entry.bitmap,
+            entry.pointer,
+            SpecialEntry::FULL,
+            s,
+        );
     }
     judged.fault
 }
 
 // Writes a special event list to a lent record, all of it; refused, the record is as it was.
-pub fn write(bytes: &mut [u8], s: u32, list: SpecialList) -> Refusal
-    ensures { record { answer = result; bytes = bytes.new } ≡ special_written s list bytes.old }
+pub fn write(bytes: &mut [u8], s: u32, list: SpecialList) -> Result<(), Refusal>
+    ensures { record { answer = answer_of result; bytes = bytes.new } ≡ special_written s list bytes.old }
 {
     if bytes.len() != BYTES {
-        return Refusal::WRONG_LENGTH;
+        return Err(Refusal::WRONG_LENGTH);
     }
     if SpecialList::MOST < s {
-        return Refusal::OUTSIDE_LIMITS;
+        return Err(Refusal::OUTSIDE_LIMITS);
     }
     let mut draft = [0u64; 9];
     let end = put_list(&mut draft, list);
@@ -233,8 +207,8 @@ pub fn write(bytes: &mut [u8], s: u32, list: SpecialList) -> Refusal
 }
 
 fn put_entry(draft: &mut [u64], c: Cursor, count: u32, k: u32, e: SpecialEntry) -> Cursor
-    requires { Drafted draft.old 232 c }
-    ensures { EntryGave draft.old draft.new (entry k) (1 + 5 * k) count c (entry_numbers e) result }
+    requires { Drafted draft.old 232 (stand c) }
+    ensures { EntryGave draft.old draft.new (entry k) (1 + 5 * k) count (stand c) (entry_numbers e) (stand result) }
 {
     let marks = e.bitmap;
     let bitmap = put::number(draft, BITS, c, When::Above(count, k), 4, marks);
@@ -246,7 +220,7 @@ fn put_entry(draft: &mut [u64], c: Cursor, count: u32, k: u32, e: SpecialEntry) 
 
 fn put_list(draft: &mut [u64], list: SpecialList) -> Cursor
     requires { length draft.old ≡ 9 }
-    ensures { Puts 232 (numbers_of list) special_list [] draft.old start (numbers_of list) draft.new result }
+    ensures { Puts 232 (numbers_of list) special_list [] draft.old start (numbers_of list) draft.new (stand result) }
 {
     let most = SpecialList::MOST;
     let count = list.count;

@@ -1,18 +1,22 @@
 use mathlib.Core.Bool.{or-true}
-use mathlib.Core.Path.{◌≡◌, sym, ◌∙◌}
+use mathlib.Core.Path.{◌≡◌, sym, ap, ◌∙◌}
 use lib.ListN.{length}
 use borrow.Author.Rules.{rules}
 use borrow.Author.Tests.{ne_eqb}
+use Rattle.rows.specs.Inner.Standing.{Standing, stand}
+use Rattle.rows.proofs.Stepping.{halted, clear}
+use Rattle.lists.specs.List.{fair}
+use Rattle.lists.specs.Inner.Steps.{tallied}
 use Rattle.lists.proofs.Listing.{length_of_map, obeyed_none}
 use Rattle.lists.proofs.Judging.{fault_none}
 use Rattle.lists.proofs.Fairness.{rule_held, recount_ready, tally_held}
 use Rattle.lists.proofs.list.held.Goals as goal
 
-pub returns-then-ruled-ne0 : goal.returns-then-ruled-ne0
-returns-then-ruled-ne0 c =
+pub returns-then-is_refused : goal.returns-then-is_refused
+returns-then-is_refused c =
     let eight : length c.args.list.entries ≡ 8 = search (rules, length_of_map) in
     let own = c.obeyed-ruled.ensures _ (rule_held _ _ c.args.list eight _ c.recounted-recount.ensures) in
-    let why = ne_eqb _ _ c.if-ruled-ne0.true in
+    let why = ne_eqb _ _ (halted c.is_refused.ensures c.if-is_refused.true) in
     own ∙ sym (rw (← own, why, or-true))
 
 pub tally-fresh-requires : goal.tally-fresh-requires
@@ -26,6 +30,6 @@ returns c =
     let so = c.recounted-recount.ensures in
     let rule = rule_held _ _ c.args.list eight _ so in
     let own = c.obeyed-ruled.ensures _ rule in
-    let clear = fault_none rule (obeyed_none c.args.end _ (rw own at c.if-ruled-ne0.false)) in
-    let right = c.eq.ensures ∙ tally_held _ _ c.args.list eight _ so _ clear c.tally-fresh.ensures in
-    c.fair.ensures ∙ rw (right, own)
+    let none = fault_none rule (obeyed_none (stand c.args.end) _ (sym (ap (λ (d : Standing). d.why) own) ∙ clear c.is_refused.ensures c.if-is_refused.false)) in
+    let right = c.eq.ensures ∙ tally_held _ _ c.args.list eight _ so _ none c.tally-fresh.ensures in
+    c.fair.ensures ∙ (ap (tallied (stand c.obeyed-ruled.result)) right ∙ ap (λ (d : Standing). tallied d (fair c.args.c c.args.list)) own)

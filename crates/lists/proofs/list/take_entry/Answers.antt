@@ -6,8 +6,8 @@ use Rattle.lists.proofs.list.take_entry.Goals as goal
 pub returns : goal.returns
 returns c =
     let network = c.number-network.result.number in
-    let rest = c.take_rest-rest.result in
-    let took = c.take_rest-rest.ensures in
+    let rest = c.take_rest-behind.result.value in
+    let took = c.take_rest-behind.ensures in
     record {
       ready = took.pointer.ready;
       takes = λ seen long counted.
