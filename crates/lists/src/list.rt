@@ -387,7 +387,7 @@ pub fn read(bytes: &[u8], n: u32, c: u32) -> ListRead
         spent = spent.with(c, entry.pointer, entry.priority);
         judged = judged.with(k + 1, entry.bitmap, entry.pointer, Entry::FULL, n);
     }
-    let end = rules::obeyed(take::end(&words, BITS, last), judged.fault);
+    let end = rules::obeyed(take::end(&words, BITS, last), judged.fault());
     if end.why != 0 {
         return refused(Refusal::met(end));
     }
@@ -497,7 +497,7 @@ fn held(end: Cursor, list: ContractList, n: u32, c: u32) -> Cursor
     let recount = list.recounted(n, c);
     let judged = recount.judged;
     let spent = recount.spent;
-    let ruled = rules::obeyed(end, judged.fault);
+    let ruled = rules::obeyed(end, judged.fault());
     if ruled.why != 0 {
         return ruled;
     }

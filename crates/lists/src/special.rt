@@ -212,7 +212,7 @@ fn at_fault(list: SpecialList, s: u32) -> Option<u32>
     for (i, entry) in list.counted().iter().enumerate() {
         judged = judged.with(i as u32 + 1, entry.bitmap, entry.pointer, SpecialEntry::FULL, s);
     }
-    judged.fault
+    judged.fault()
 }
 
 // Writes a special event list to a lent record, all of it; refused, the record is as it was.

@@ -4,7 +4,7 @@ use Rattle.rows.specs.Inner.Line.{taken, ◌▸◌}
 use Rattle.records.proofs.Answering.{eight_words}
 use Rattle.lists.specs.List.{list_fault}
 use Rattle.lists.proofs.Listing.{list_short, list_outside}
-use Rattle.lists.proofs.Lines.{sofar_start, sofar_few, sofar_limit, sofar_ready, sofar_fault, sofar_more, sofar_refused, sofar_read, sofar_denied, line_refused}
+use Rattle.lists.proofs.Lines.{sofar_start, sofar_few, sofar_limit, sofar_ready, sofar_more, sofar_refused, sofar_read, sofar_denied, line_refused}
 use Rattle.lists.proofs.list.read.Goals as goal
 
 pub returns-then-bytes-ne-BYTES : goal.returns-then-bytes-ne-BYTES
@@ -64,10 +64,10 @@ pub end-requires : goal.end-requires
 end-requires c = (c.loop-k.invariant.ready, omega arith)
 
 pub returns-then-end-ne0 : goal.returns-then-end-ne0
-returns-then-end-ne0 c = c.refused-then-end-ne0.ensures ∙ rw c.met-then-end-ne0.ensures (sofar_denied c.loop-k.invariant (omega arith) _ _ c.end.ensures (c.obeyed-end.ensures _ (sofar_fault c.loop-k.invariant (omega arith))) c.if-end-ne0.true)
+returns-then-end-ne0 c = c.refused-then-end-ne0.ensures ∙ rw c.met-then-end-ne0.ensures (sofar_denied c.loop-k.invariant (omega arith) _ _ c.end.ensures (c.obeyed-end.ensures _ c.fault.ensures) c.if-end-ne0.true)
 
 pub tally-list-requires : goal.tally-list-requires
 tally-list-requires c = sofar_ready c.loop-k.invariant
 
 pub returns : goal.returns
-returns c = sofar_read c.loop-k.invariant (omega arith) _ _ c.end.ensures (c.obeyed-end.ensures _ (sofar_fault c.loop-k.invariant (omega arith))) c.if-end-ne0.false _ c.tally-list.ensures
+returns c = sofar_read c.loop-k.invariant (omega arith) _ _ c.end.ensures (c.obeyed-end.ensures _ c.fault.ensures) c.if-end-ne0.false _ c.tally-list.ensures
