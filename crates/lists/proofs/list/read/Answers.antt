@@ -35,17 +35,8 @@ loop-k-init c =
 pub slice_bounds-take_entry-end : goal.slice_bounds-take_entry-end
 slice_bounds-take_entry-end c = eight_words c.args.bytes.now _ c.loop-k.invariant.cuts
 
-pub take_entry-taken-requires : goal.take_entry-taken-requires
-take_entry-taken-requires c = c.loop-k.invariant.ready
-
 pub returns-then-last-ne0 : goal.returns-then-last-ne0
 returns-then-last-ne0 c = c.refused-then-last-ne0.ensures ∙ rw c.met-then-last-ne0.ensures (sofar_refused c.loop-k.invariant _ _ c.take_entry-taken.ensures (omega arith) c.if-last-ne0.true)
-
-pub offset_bounds-list-k : goal.offset_bounds-list-k
-offset_bounds-list-k c = omega (arith, c.loop-k.invariant.few)
-
-pub bounds-list-k : goal.bounds-list-k
-bounds-list-k c = omega (arith, c.loop-k.invariant.few)
 
 pub with-spent-requires : goal.with-spent-requires
 with-spent-requires c = sofar_few c.loop-k.invariant (omega arith)

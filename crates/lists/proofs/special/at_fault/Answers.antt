@@ -16,9 +16,6 @@ loop-i-init c =
     let four : length list.entries ≡ 4 = search (rules, length_of_map) in
     (rw (c.counted-entry-items.ensures, length-take, four) (omega arith), judges_none _ _)
 
-pub with-judged-requires : goal.with-judged-requires
-with-judged-requires c = c.requires
-
 pub loop-i-preserved : goal.loop-i-preserved
 loop-i-preserved c =
     let inv = c.loop-i.invariant in
