@@ -10,14 +10,13 @@ use lib.Dec.{eqb, ltb, leb}
 use lib.ListN.{length, get_or, set, take, length-append}
 use lib.Seq.{get_or-take, length-take-le, take-suc, take-suc-set, take_all}
 use borrow.Author.Tests.{lt-ltb, ltb-true, leb-true, le-leb, lt-leb}
-use Rattle.std.proofs.Common.{None}
 use Rattle.bits.specs.Bits.{bit}
 use Rattle.rows.specs.Row.{pick}
 use Rattle.rows.proofs.Margins.{both}
 use Rattle.lists.specs.List.{entry_of, entry_at, numbers_of, list_fault, fair}
 use Rattle.lists.specs.Entries.{counted, listing, recoded, recoded_at, with_priority, without, without_pointer, appended}
 use Rattle.lists.specs.Tally.{in_use, used_up, how_many, tally_of, same_tally, free_of, entered, revalued, at_pointer}
-use Rattle.lists.specs.Inner.Judging.{optional, Recounts}
+use Rattle.lists.specs.Inner.Judging.{Recounts}
 use Rattle.lists.specs.declared.list.Entry.{Entry}
 use Rattle.lists.specs.declared.list.ContractList.{ContractList}
 use Rattle.lists.specs.declared.list.Recount.{Recount}
@@ -144,7 +143,7 @@ module _ (c : ℕ) (es : List Entry) (i : ℕ) (t : Tally) (so : t ≡ tally_of 
   tally_all all = rw (take_all i es all) at so
 
 -- A fresh count, and the rule, entry by entry.
-pub recount_none : (n c : ℕ) → Recounts n c [] (record { judged = record { used = 0; fault = None }; spent = record { all = 0; counter = 0 } })
+pub recount_none : (n c : ℕ) → Recounts n c [] (record { judged = record { used = 0; fault = 0 }; spent = record { all = 0; counter = 0 } })
 recount_none n c = record { judges = judges_none 3 n; spent = refl }
 
 module _ (n c : ℕ) (es : List Entry) (i : ℕ) (j : Judged) (s : Spent) (so : Recounts n c (take i es) (record { judged = j; spent = s })) where
@@ -171,14 +170,14 @@ module _ (n c : ℕ) (es : List Entry) (i : ℕ) (j : Judged) (s : Spent) (so : 
 
 -- The cursor after the rule and the tally, by such a count.
 module _ (n c : ℕ) (l : ContractList) (eight : length l.entries ≡ 8) (r : Recount) (so : Recounts n c (counted l) r) where
-  pub rule_held : r.judged.fault ≡ optional (list_fault n (numbers_of l))
-  rule_held = so.judges.fault ∙ ap (λ (x : ℕ). optional x) (fault_list n l eight)
+  pub rule_held : r.judged.fault ≡ list_fault n (numbers_of l)
+  rule_held = so.judges.fault ∙ fault_list n l eight
 
   pub recount_ready : r.spent.counter ≤ r.spent.all
   recount_ready = rw so.spent (spent_few c (counted l))
 
   -- What the tally is held to, where no entry is at fault.
-  pub tally_held : (t : Tally) → r.judged.fault ≡ None
+  pub tally_held : (t : Tally) → r.judged.fault ≡ 0
       → t ≡ record {
         counter = record { used = r.judged.used % 2 ^ c; spent = r.spent.counter };
         plain = record { used = r.judged.used - r.judged.used % 2 ^ c; spent = r.spent.all - r.spent.counter };

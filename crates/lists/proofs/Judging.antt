@@ -1,7 +1,7 @@
 -- The list rule by a mask of the pointers in use: one entry more.
 use Prim.Native.Nat.{ℕ, zero, suc, ◌+◌, ◌-◌, ◌/◌, ◌%◌, ◌^◌, ◌≤◌, ◌<◌}
 use mathlib.Core.List.{List, [], ◌∷◌, ◌++◌, map, append-nil, append_assoc, map-append}
-use mathlib.Core.Bool.{Bool, true, false, ◌&&◌, ◌||◌, or-false, or-true, true≢false}
+use mathlib.Core.Bool.{Bool, true, false, ◌&&◌, ◌||◌, or-false, or-true}
 use mathlib.Core.Path.{◌≡◌, refl, sym, ap, ◌∙◌}
 use native.Mathlib.Omega.{arith}
 use native.Mathlib.Numerals.{add-one}
@@ -9,7 +9,7 @@ use lib.Dec.{eqb, leb}
 use lib.ListN.{length, get_or, take, length-append, length-map}
 use lib.Seq.{length-take-le, take-suc}
 use borrow.Author.Tests.{eq-eqb, ne_eqb, leb-true}
-use Rattle.std.proofs.Common.{Option, Some, None, is_some}
+use Rattle.std.proofs.Common.{Some, None}
 use Rattle.bits.specs.Bits.{odd}
 use Rattle.rows.specs.Row.{pick, among}
 use Rattle.rows.proofs.Margins.{both}
@@ -51,11 +51,7 @@ among_last q (m ∷ ps) p = go (eqb m q) (among_last q ps p)
     go true rest = refl
     go false rest = rest
 
--- The first entry at fault, or none.
-pub is_none : (o : Option ℕ) → is_some o ≡ false → o ≡ None
-is_none None e = refl
-is_none (Some k) e = cc
-
+-- What an option says of a number that 0 stands for the lack of.
 pub optional_none : (k : ℕ) → None ≡ optional k → k ≡ 0
 optional_none zero e = refl
 optional_none (suc k) e = cc
@@ -64,11 +60,8 @@ pub optional_some : (k m : ℕ) → Some m ≡ optional k → (m ≡ k) × (k �
 optional_some zero m e = absurd (cc)
 optional_some (suc k) m e = (cc, λ z. omega arith)
 
-pub fault_none : {k : ℕ} {o : Option ℕ} → o ≡ optional k → k ≡ 0 → o ≡ None
-fault_none same none = rw none at same
-
 -- Before the first entry.
-pub judges_none : (full limit : ℕ) → Judges full limit [] [] (record { used = 0; fault = None })
+pub judges_none : (full limit : ℕ) → Judges full limit [] [] (record { used = 0; fault = 0 })
 judges_none full limit = record { same = refl; fault = refl; used = λ clear. refl }
 
 -- What the test of an entry's elements and pointer says of the pointer.
@@ -82,36 +75,35 @@ module _ (full limit : ℕ) (bs ps : List ℕ) (j : Judged) (so_far : Judges ful
   same_more : length (bs ++ (b ∷ [])) ≡ length (ps ++ (p ∷ []))
   same_more = simp length-append (omega arith)
 
-  more : (t : Bool) → keeps full limit ps b p ≡ t → j.fault ≡ None
+  more : (t : Bool) → keeps full limit ps b p ≡ t → j.fault ≡ 0
       → pick t 0 k ≡ first_at_fault full limit (bs ++ (b ∷ [])) (ps ++ (p ∷ []))
   more t so clear =
-      let none : first_at_fault full limit bs ps ≡ 0 = optional_none _ (sym clear ∙ so_far.fault) in
+      let none : first_at_fault full limit bs ps ≡ 0 = sym so_far.fault ∙ clear in
       sym (fault_more full limit [] bs ps b p so_far.same ∙ rw (none, so, counted))
 
-  pub judges_faulty : is_some j.fault ≡ true → Judges full limit (bs ++ (b ∷ [])) (ps ++ (p ∷ [])) j
+  pub judges_faulty : (j.fault ≡ 0 → ⊥) → Judges full limit (bs ++ (b ∷ [])) (ps ++ (p ∷ [])) j
   judges_faulty why =
-      let some : first_at_fault full limit bs ps ≡ 0 → ⊥ = λ e. let none = fault_none so_far.fault e in true≢false (sym (rw none at why)) in
+      let some : first_at_fault full limit bs ps ≡ 0 → ⊥ = λ e. why (so_far.fault ∙ e) in
       record {
         same = same_more;
-        fault = so_far.fault ∙ ap (λ (x : ℕ). optional x) (sym (fault_more full limit [] bs ps b p so_far.same ∙ rw (ne_eqb _ _ some)));
-        used = λ clear. absurd (true≢false (sym (rw clear at why)));
+        fault = so_far.fault ∙ sym (fault_more full limit [] bs ps b p so_far.same ∙ rw (ne_eqb _ _ some));
+        used = λ clear. absurd (why clear);
       }
 
-  pub judges_broken : j.fault ≡ None → keeps full limit ps b p ≡ false
-      → Judges full limit (bs ++ (b ∷ [])) (ps ++ (p ∷ [])) (record { used = j.used; fault = Some k })
+  pub judges_broken : j.fault ≡ 0 → keeps full limit ps b p ≡ false
+      → Judges full limit (bs ++ (b ∷ [])) (ps ++ (p ∷ [])) (record { used = j.used; fault = k })
   judges_broken clear broken =
-      let own : Some k ≡ optional k = rw counted in
       record {
         same = same_more;
-        fault = own ∙ ap (λ (x : ℕ). optional x) (more false broken clear);
-        used = λ none. absurd (cc);
+        fault = more false broken clear;
+        used = λ none. absurd (omega arith);
       }
 
   -- An entry does not keep the rule where it lacks an element or its pointer is outside the limit;
   pub keeps_not : eqb (b / 2) full && leb 1 p && leb p limit ≡ false → keeps full limit ps b p ≡ false
   keeps_not h = rw h
 
-  module _ (few : limit ≤ 8) (clear : j.fault ≡ None) (h : eqb (b / 2) full && leb 1 p && leb p limit ≡ true) where
+  module _ (few : limit ≤ 8) (clear : j.fault ≡ 0) (h : eqb (b / 2) full && leb 1 p && leb p limit ≡ true) where
     inside : (1 ≤ p) × (p ≤ 8)
     inside = let (low, high) = tested b full p limit h in (low, omega arith)
 
@@ -123,13 +115,13 @@ module _ (full limit : ℕ) (bs ps : List ℕ) (j : Judged) (so_far : Judges ful
     keeps_taken on = let again : among p ps ≡ true = sym own_bit ∙ eq-eqb _ _ on in rw (h, again)
 
     pub judges_kept : (u : ℕ) → u ≡ j.used + 2 ^ (p - 1) → j.used / 2 ^ (p - 1) % 2 ≡ 0
-        → Judges full limit (bs ++ (b ∷ [])) (ps ++ (p ∷ [])) (record { used = u; fault = None })
+        → Judges full limit (bs ++ (b ∷ [])) (ps ++ (p ∷ [])) (record { used = u; fault = 0 })
     judges_kept u one off =
         let unused : among p ps ≡ false = sym own_bit ∙ rw off in
         let now : among p (ps ++ (p ∷ [])) ≡ true = rw (among_last p ps p, eq-eqb p p refl) (or-true (among p ps)) in
         record {
           same = same_more;
-          fault = ap (λ (x : ℕ). optional x) (more true (rw (h, unused)) clear);
+          fault = more true (rw (h, unused)) clear;
           used = λ _.
               one
               ∙ rw (so_far.used clear)

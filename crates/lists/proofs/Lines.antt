@@ -10,7 +10,6 @@ use lib.ListN.{length, get_or, set, take, drop, replicate, length-append, length
 use lib.Seq.{get_or_at, length-take-le, take_all, split_at, take-suc, take-suc-set, drop-set-lt, drop-drop, drop_at}
 use lib.Pow as pow
 use borrow.Author.Tests.{eq-eqb, ne_eqb, le-ltb, ltb-false, eqb-true, leb-true}
-use Rattle.std.proofs.Common.{None}
 use Rattle.bits.specs.Bits.{bit, number, cut, spread}
 use Rattle.bits.specs.Inner.Words.{number_at}
 use Rattle.bits.proofs.Cutting.{length-spread}
@@ -32,17 +31,16 @@ use Rattle.records.specs.Inner.Met.{met}
 use Rattle.records.proofs.Inverse.{named_all}
 use Rattle.records.proofs.Answering.{all_words}
 use Rattle.lists.specs.List.{entry_numbers, entry_of, numbers_of, list_of, outside, list_fault, got_list, no_tally, no_list, list_read}
-use Rattle.lists.specs.Rules.{first_at_fault}
 use Rattle.lists.specs.Tally.{used_up, tally_of}
 use Rattle.lists.specs.Inner.Steps.{obeyed, EntryTook, RestTook, EntryGave}
-use Rattle.lists.specs.Inner.Judging.{optional, Judges, spent_of}
+use Rattle.lists.specs.Inner.Judging.{Judges, spent_of}
 use Rattle.lists.specs.declared.list.Entry.{Entry}
 use Rattle.lists.specs.declared.list.ContractList.{ContractList}
 use Rattle.lists.specs.declared.rules.Judged.{Judged}
 use Rattle.lists.specs.declared.tally.Spent.{Spent}
 use Rattle.lists.specs.declared.tally.Tally.{Tally}
 use Rattle.lists.proofs.Rowing.{rows_from, rows_split, rows_more, flat, flat_append, seen_long, seen_more}
-use Rattle.lists.proofs.Judging.{Turned, fault_none, judges_none, judges_more}
+use Rattle.lists.proofs.Judging.{Turned, judges_none, judges_more}
 use Rattle.lists.proofs.Tallying.{tally_counted, spent_few, spent_below, spent_more}
 use Rattle.lists.proofs.Kept.{inside_limits}
 use Rattle.lists.proofs.list.Laws.{bitmaps, pointers, fault_list, list_of_numbers}
@@ -201,7 +199,7 @@ pub sofar_start : (bytes : List ℕ) (n counters : ℕ) (words : List ℕ) (head
     → words ≡ cut 32 64 8 (spread 8 bytes)
     → Took words 232 start Always (4 ∷ []) (Most n) (head.number ∷ []) head
     → head.why ≡ 0
-    → Sofar bytes n counters words head.number (record { count = head.number; entries = replicate 8 none; tally = no_tally }) (record { used = 0; fault = None }) (record { all = 0; counter = 0 }) head 0
+    → Sofar bytes n counters words head.number (record { count = head.number; entries = replicate 8 none; tally = no_tally }) (record { used = 0; fault = 0 }) (record { all = 0; counter = 0 }) head 0
 sofar_start bytes n counters words head whole inside cuts took clear =
     let long : length (spread 8 bytes) ≡ 232 = rw (length-spread 8 bytes, whole) in
     let most : head.number ≤ n =
@@ -308,29 +306,28 @@ module _ {bytes : List ℕ} {n counters : ℕ} {words : List ℕ} {count : ℕ} 
         ∙ ap (λ (ns : List ℕ). count ∷ ns) (flat_append entry_numbers (take k l.entries) (drop k l.entries))) in
         record { takes = rw (whole_rows n k few_taken, all) (takes_append so.takes skipped.takes); ready = skipped.ready }
 
-    pub sofar_fault : j.fault ≡ optional (list_fault n (numbers_of l))
+    sofar_fault : j.fault ≡ list_fault n (numbers_of l)
     sofar_fault =
         let all : k ≡ l.count = omega (arith, so.upto, so.counts) in
-        let same : first_at_fault 3 n (bitmaps (take k l.entries)) (pointers (take k l.entries)) ≡ list_fault n (numbers_of l) = rw all (fault_list n l so.eight) in
-        so.judges.fault ∙ ap (λ (x : ℕ). optional x) same
+        so.judges.fault ∙ rw all (fault_list n l so.eight)
 
-    module _ (e f : Standing) (ended : Ended words 232 c e) (ruled : f ≡ obeyed e (list_fault n (numbers_of l))) where
+    module _ (e f : Standing) (ended : Ended words 232 c e) (ruled : f ≡ obeyed e j.fault) where
       pub sofar_read : f.why ≡ 0 → (t : Tally)
           → t ≡ record { counter = record { used = j.used % 2 ^ counters; spent = s.counter }; plain = record { used = j.used - j.used % 2 ^ counters; spent = s.all - s.counter } }
           → got_list (record { count = l.count; entries = l.entries; tally = t }) ≡ list_read n counters bytes
       sofar_read ok t made =
           let all : k ≡ l.count = omega (arith, so.upto, so.counts) in
-          let clear = fault_none sofar_fault (obeyed_none e _ (rw ruled at ok)) in
+          let clear : j.fault ≡ 0 = obeyed_none e j.fault (rw ruled at ok) in
           let even : t ≡ tally_of counters (take k l.entries) =
           made ∙ rw so.spends (tally_counted counters (take k l.entries) j.used (so.judges.used clear)) in
           ap got_list (sym (list_of_numbers counters (record { count = l.count; entries = l.entries; tally = t }) so.eight (rw all at even)))
           ∙ list_read_law (λ vals. got_list (list_of counters vals)) no_list (list_fault n) (outside n counters) (contract_list n) bytes words (numbers_of l) skipped.last e f
-          (omega (arith, list_rows n)) so.whole so.inside so.cuts sofar_taken (skips_ended e skipped so.clear ended) ruled ok
+          (omega (arith, list_rows n)) so.whole so.inside so.cuts sofar_taken (skips_ended e skipped so.clear ended) (ruled ∙ rw sofar_fault) ok
 
       pub sofar_denied : (f.why ≡ 0 → ⊥) → no_list (met f) ≡ list_read n counters bytes
       sofar_denied why =
           list_refused (λ vals. got_list (list_of counters vals)) no_list (list_fault n) (outside n counters) (contract_list n) bytes words (numbers_of l) skipped.last e f
-          (omega (arith, list_rows n)) so.whole so.inside so.cuts sofar_taken (skips_ended e skipped so.clear ended) ruled why
+          (omega (arith, list_rows n)) so.whole so.inside so.cuts sofar_taken (skips_ended e skipped so.clear ended) (ruled ∙ rw sofar_fault) why
 
 -- What the writer's loop has come to before entry k, the count put before it.
 pub record Putting (l : ContractList) (xs : List ℕ) (b : Standing) (ys : List ℕ) (c : Standing) (k : ℕ) : Type 0 where

@@ -370,7 +370,7 @@ pub fn read(bytes: &[u8], n: u32, c: u32) -> Result<ContractList, Refusal>
         spent = spent.with(c, entry.pointer, entry.priority);
         judged = judged.with(k + 1, entry.bitmap, entry.pointer, Entry::FULL, n);
     }
-    let end = rules::obeyed(take::end(&words, BITS, last), judged.fault);
+    let end = rules::obeyed(take::end(&words, BITS, last), judged.fault());
     Refusal::met(end)?;
     list.tally = spent.tally(c, judged.used);
     Ok(list)
@@ -469,7 +469,7 @@ fn held(end: Cursor, list: ContractList, n: u32, c: u32) -> Cursor
     let recount = list.recounted(n, c);
     let judged = recount.judged;
     let spent = recount.spent;
-    let ruled = rules::obeyed(end, judged.fault);
+    let ruled = rules::obeyed(end, judged.fault());
     if ruled.is_refused() {
         return ruled;
     }

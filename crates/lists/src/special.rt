@@ -186,7 +186,7 @@ fn at_fault(list: SpecialList, s: u32) -> Option<u32>
             s,
         );
     }
-    judged.fault
+    judged.fault()
 }
 
 // Writes a special event list to a lent record, all of it; refused, the record is as it was.

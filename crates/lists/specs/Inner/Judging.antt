@@ -17,8 +17,8 @@ optional (suc k) = Some (suc k)
 -- The entries of these bitmaps and pointers: the first at fault, and where there is none, the pointers in use, bit pointer - 1.
 pub record Judges (full limit : ℕ) (bitmaps pointers : List ℕ) (j : Judged) : Type 0 where
   pub same : length bitmaps ≡ length pointers
-  pub fault : j.fault ≡ optional (first_at_fault full limit bitmaps pointers)
-  pub used : j.fault ≡ None → j.used ≡ mask 8 1 (λ p. among p pointers)
+  pub fault : j.fault ≡ first_at_fault full limit bitmaps pointers
+  pub used : j.fault ≡ 0 → j.used ≡ mask 8 1 (λ p. among p pointers)
 
 -- How many of some entries are used up, and how many of those are on counter positions.
 abbrev pub spent_of : ℕ → List Entry → Spent

@@ -8,14 +8,13 @@ use Rattle.rows.proofs.Stepping.{halted, clear}
 use Rattle.lists.specs.List.{fair}
 use Rattle.lists.specs.Inner.Steps.{tallied}
 use Rattle.lists.proofs.Listing.{length_of_map, obeyed_none}
-use Rattle.lists.proofs.Judging.{fault_none}
 use Rattle.lists.proofs.Fairness.{rule_held, recount_ready, tally_held}
 use Rattle.lists.proofs.list.held.Goals as goal
 
 pub returns-then-is_refused : goal.returns-then-is_refused
 returns-then-is_refused c =
     let eight : length c.args.list.entries ≡ 8 = search (rules, length_of_map) in
-    let own = c.obeyed-ruled.ensures _ (rule_held _ _ c.args.list eight _ c.recounted-recount.ensures) in
+    let own = rw (rule_held _ _ c.args.list eight _ c.recounted-recount.ensures) at (c.obeyed-ruled.ensures _ c.fault.ensures) in
     let why = ne_eqb _ _ (halted c.is_refused.ensures c.if-is_refused.true) in
     own ∙ sym (rw (← own, why, or-true))
 
@@ -28,8 +27,8 @@ pub returns : goal.returns
 returns c =
     let eight : length c.args.list.entries ≡ 8 = search (rules, length_of_map) in
     let so = c.recounted-recount.ensures in
-    let rule = rule_held _ _ c.args.list eight _ so in
-    let own = c.obeyed-ruled.ensures _ rule in
-    let none = fault_none rule (obeyed_none (stand c.args.end) _ (sym (ap (λ (d : Standing). d.why) own) ∙ clear c.is_refused.ensures c.if-is_refused.false)) in
+    let told = c.obeyed-ruled.ensures _ c.fault.ensures in
+    let none = obeyed_none (stand c.args.end) c.recounted-recount.result.judged.fault (sym (ap (λ (d : Standing). d.why) told) ∙ clear c.is_refused.ensures c.if-is_refused.false) in
+    let own = rw (rule_held _ _ c.args.list eight _ so) at told in
     let right = c.eq.ensures ∙ tally_held _ _ c.args.list eight _ so _ none c.tally-fresh.ensures in
     c.fair.ensures ∙ (ap (tallied (stand c.obeyed-ruled.result)) right ∙ ap (λ (d : Standing). tallied d (fair c.args.c c.args.list)) own)

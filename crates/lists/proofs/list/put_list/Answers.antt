@@ -12,9 +12,6 @@ use Rattle.lists.proofs.list.put_list.Goals as goal
 pub loop-k-init : goal.loop-k-init
 loop-k-init c = record { upto = omega arith; ready = c.at_most-head.ensures.ready; puts = given }
 
-pub put_entry-c-requires : goal.put_entry-c-requires
-put_entry-c-requires c = c.loop-k.invariant.ready
-
 pub loop-k-preserved : goal.loop-k-preserved
 loop-k-preserved c =
     let l = c.args.list in

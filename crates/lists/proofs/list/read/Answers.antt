@@ -6,7 +6,7 @@ use Rattle.rows.specs.Inner.Line.{taken, ◌▸◌}
 use Rattle.records.proofs.Answering.{eight_words, met_none, met_one}
 use Rattle.lists.specs.List.{list_fault, no_list}
 use Rattle.lists.proofs.Listing.{list_short, list_outside}
-use Rattle.lists.proofs.Lines.{sofar_start, sofar_few, sofar_limit, sofar_ready, sofar_fault, sofar_more, sofar_refused, sofar_read, sofar_denied, line_refused}
+use Rattle.lists.proofs.Lines.{sofar_start, sofar_few, sofar_limit, sofar_ready, sofar_more, sofar_refused, sofar_read, sofar_denied, line_refused}
 use Rattle.lists.proofs.list.read.Goals as goal
 
 pub returns-then-bytes-ne-BYTES : goal.returns-then-bytes-ne-BYTES
@@ -48,12 +48,6 @@ returns-in_err-met-2 c =
     let is : c.from_residual-in_err-met-2.result ≡ Err c.in_err-met-2.field-0.0 = search rules in
     rw is (ap no_list one ∙ sofar_refused c.loop-k.invariant _ _ c.take_entry-taken.ensures (omega arith) (met_one _ (stand c.take_entry-taken.result.last) one))
 
-pub offset_bounds-list-k : goal.offset_bounds-list-k
-offset_bounds-list-k c = omega (arith, c.loop-k.invariant.few)
-
-pub bounds-list-k : goal.bounds-list-k
-bounds-list-k c = omega (arith, c.loop-k.invariant.few)
-
 pub with-spent-requires : goal.with-spent-requires
 with-spent-requires c = sofar_few c.loop-k.invariant (omega arith)
 
@@ -74,10 +68,10 @@ pub returns-in_err-met-3 : goal.returns-in_err-met-3
 returns-in_err-met-3 c =
     let one = c.in_err-met-3.ensures in
     let is : c.from_residual-in_err-met-3.result ≡ Err c.in_err-met-3.field-0.0 = search rules in
-    rw is (ap no_list one ∙ sofar_denied c.loop-k.invariant (omega arith) _ _ c.end.ensures (c.obeyed-end.ensures _ (sofar_fault c.loop-k.invariant (omega arith))) (met_one _ (stand c.obeyed-end.result) one))
+    rw is (ap no_list one ∙ sofar_denied c.loop-k.invariant (omega arith) _ _ c.end.ensures (c.obeyed-end.ensures _ c.fault.ensures) (met_one _ (stand c.obeyed-end.result) one))
 
 pub tally-list-requires : goal.tally-list-requires
 tally-list-requires c = sofar_ready c.loop-k.invariant
 
 pub returns : goal.returns
-returns c = sofar_read c.loop-k.invariant (omega arith) _ _ c.end.ensures (c.obeyed-end.ensures _ (sofar_fault c.loop-k.invariant (omega arith))) (met_none (stand c.obeyed-end.result) c.in_ok-met-3.ensures) _ c.tally-list.ensures
+returns c = sofar_read c.loop-k.invariant (omega arith) _ _ c.end.ensures (c.obeyed-end.ensures _ c.fault.ensures) (met_none (stand c.obeyed-end.result) c.in_ok-met-3.ensures) _ c.tally-list.ensures

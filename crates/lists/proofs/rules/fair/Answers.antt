@@ -1,1 +1,0 @@
-use Rattle.lists.proofs.rules.fair.Goals as goal

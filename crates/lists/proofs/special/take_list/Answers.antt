@@ -13,12 +13,6 @@ use Rattle.lists.proofs.special.take_list.Goals as goal
 pub loop-k-init : goal.loop-k-init
 loop-k-init c = (refl, refl, record { upto = omega arith; ready = c.at_most-head.ensures.ready; takes = taken })
 
-pub take_entry-taken-requires : goal.take_entry-taken-requires
-take_entry-taken-requires c = c.loop-k.invariant.2.ready
-
-pub bounds-list-k : goal.bounds-list-k
-bounds-list-k c = omega (arith, c.loop-k.invariant.0)
-
 pub loop-k-preserved : goal.loop-k-preserved
 loop-k-preserved c =
     let l = c.loop-k in

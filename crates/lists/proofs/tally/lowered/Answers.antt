@@ -1,6 +1,5 @@
 use Prim.Native.Nat.{◌-◌}
 use native.Mathlib.Omega.{arith}
-use borrow.Author.Tests.{ne_eqb}
 use Rattle.lists.proofs.Masks.{shifted, bit_le, inside}
 use Rattle.lists.proofs.tally.lowered.Goals as goal
 
@@ -17,12 +16,3 @@ pub overflow_sub-result : goal.overflow_sub-result
 overflow_sub-result c =
     let a = c.args in
     rw (shifted (a.pointer - 1) (overflow_shl-result c)) (bit_le a.used (a.pointer - 1) c.if-used-k-eq1.true)
-
-pub returns-then-used-k-eq1 : goal.returns-then-used-k-eq1
-returns-then-used-k-eq1 c = rw (c.if-pointer.true, c.if-used-k-eq1.true, shifted (c.args.pointer - 1) (overflow_shl-result c))
-
-pub returns-else-used-k-eq1 : goal.returns-else-used-k-eq1
-returns-else-used-k-eq1 c = rw (c.if-pointer.true, ne_eqb _ _ c.if-used-k-eq1.false)
-
-pub returns-else-pointer : goal.returns-else-pointer
-returns-else-pointer c = rw c.if-pointer.false

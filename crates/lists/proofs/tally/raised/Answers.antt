@@ -1,5 +1,4 @@
-use Prim.Native.Nat.{◌-◌, ◌/◌, ◌%◌, ◌^◌}
-use mathlib.Core.Path.{◌≡◌}
+use Prim.Native.Nat.{◌-◌}
 use native.Mathlib.Omega.{arith}
 use Rattle.lists.proofs.Masks.{shifted, inside, bit_fits}
 use Rattle.lists.proofs.tally.raised.Goals as goal
@@ -17,15 +16,3 @@ pub overflow_add-result : goal.overflow_add-result
 overflow_add-result c =
     let a = c.args in
     omega (arith, shifted (a.pointer - 1) (overflow_shl-result c), bit_fits 32 a.used (a.pointer - 1) (overflow_shl-result c) c.if-used-k-eq0.true (omega arith))
-
-pub returns-then-used-k-eq0 : goal.returns-then-used-k-eq0
-returns-then-used-k-eq0 c = rw (c.if-pointer.true, c.if-used-k-eq0.true, shifted (c.args.pointer - 1) (overflow_shl-result c))
-
-pub returns-else-used-k-eq0 : goal.returns-else-used-k-eq0
-returns-else-used-k-eq0 c =
-    let a = c.args in
-    let one : a.used / 2 ^ (a.pointer - 1) % 2 ≡ 1 = omega (arith, c.if-used-k-eq0.false) in
-    rw (c.if-pointer.true, one)
-
-pub returns-else-pointer : goal.returns-else-pointer
-returns-else-pointer c = rw c.if-pointer.false

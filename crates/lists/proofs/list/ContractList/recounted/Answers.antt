@@ -18,9 +18,6 @@ with-spent-requires c =
     let inv = c.loop-i.invariant in
     recount_few _ _ _ _ _ _ inv.1 inv.0 (omega arith)
 
-pub with-judged-requires : goal.with-judged-requires
-with-judged-requires c = c.requires
-
 pub loop-i-preserved : goal.loop-i-preserved
 loop-i-preserved c =
     let inv = c.loop-i.invariant in

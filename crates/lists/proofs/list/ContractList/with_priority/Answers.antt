@@ -1,7 +1,6 @@
-use Rattle.lists.proofs.Entries.{length_counted, no_position, past_position, stored}
+use Rattle.lists.proofs.Entries.{no_position, past_position, stored}
 use Rattle.lists.proofs.Listing.{length_of_map}
 use lib.ListN.{length}
-use native.Mathlib.Omega.{arith}
 use mathlib.Core.Path.{◌≡◌}
 use borrow.Author.Rules.{rules}
 use Rattle.lists.proofs.list.ContractList.with_priority.Goals as goal
@@ -11,18 +10,6 @@ returns-then-k-lt1 c = no_position _ _ _ _ c.if-k-lt1.true
 
 pub returns-then-len-k : goal.returns-then-len-k
 returns-then-len-k c = past_position _ _ _ _ c.if-k-lt1.false (rw c.len.ensures at c.if-len-k.true)
-
-pub bounds-self-k : goal.bounds-self-k
-bounds-self-k c =
-    let list = c.args.self in
-    let eight : length list.entries ≡ 8 = search (rules, length_of_map) in
-    omega (arith, length_counted list eight, c.len.ensures)
-
-pub bounds-self-k-2 : goal.bounds-self-k-2
-bounds-self-k-2 c =
-    let list = c.args.self in
-    let eight : length list.entries ≡ 8 = search (rules, length_of_map) in
-    omega (arith, length_counted list eight, c.len.ensures)
 
 pub returns : goal.returns
 returns c =

@@ -11,9 +11,6 @@ use Rattle.lists.proofs.Rowing.{flat, laid_more}
 use Rattle.lists.proofs.special.Laws.{numbers_flat}
 use Rattle.lists.proofs.special.SpecialList.numbers.Goals as goal
 
-pub loop-k-init : goal.loop-k-init
-loop-k-init c = refl
-
 pub loop-k-preserved : goal.loop-k-preserved
 loop-k-preserved c =
     let list = c.args.self in

@@ -18,6 +18,3 @@ pub returns : goal.returns
 returns c =
     let none : 8 - c.loop-k.k ≡ 0 = omega arith in
     omega (arith, rw none at c.loop-k.invariant.1)
-
-pub loop-k-init : goal.loop-k-init
-loop-k-init c = (omega arith, omega arith)
