@@ -210,7 +210,13 @@ fn at_fault(list: SpecialList, s: u32) -> Option<u32>
 {
     let mut judged = Judged::NONE;
     for (i, entry) in list.counted().iter().enumerate() {
-        judged = judged.with(i as u32 + 1, entry.bitmap, entry.pointer, SpecialEntry::FULL, s);
+        judged = judged.with(
+            i as u32 + 1,
+            entry.bitmap,
+            entry.pointer,
+            SpecialEntry::FULL,
+            s,
+        );
     }
     judged.fault()
 }

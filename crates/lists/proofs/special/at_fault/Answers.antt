@@ -1,4 +1,4 @@
-use Prim.Native.Nat.{ℕ, ◌≤◌}
+use Prim.Native.Nat.{ℕ}
 use mathlib.Core.Path.{◌≡◌, ap, ◌∙◌}
 use native.Mathlib.Omega.{arith}
 use lib.ListN.{length, take, length-take}
@@ -7,7 +7,7 @@ use borrow.Author.Rules.{rules}
 use Rattle.lists.specs.Inner.Judging.{optional}
 use Rattle.lists.proofs.Listing.{length_of_map}
 use Rattle.lists.proofs.Judging.{judges_none, judges_next}
-use Rattle.lists.proofs.special.Laws.{bitmaps, pointers, fault_special}
+use Rattle.lists.proofs.special.Laws.{fault_special}
 use Rattle.lists.proofs.special.at_fault.Goals as goal
 
 pub loop-i-init : goal.loop-i-init

@@ -1,5 +1,4 @@
 use Prim.Native.Nat.{◌≤◌}
-use mathlib.Core.List.{map}
 use lib.ListN.{length, take}
 use Rattle.lists.specs.Inner.Judging.{Judges}
 use Rattle.lists.proofs.special.Laws.{bitmaps, pointers}

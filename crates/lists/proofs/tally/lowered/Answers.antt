@@ -1,6 +1,5 @@
 use Prim.Native.Nat.{◌-◌}
 use native.Mathlib.Omega.{arith}
-use borrow.Author.Tests.{ne_eqb}
 use Rattle.lists.proofs.Masks.{shifted, bit_le, inside}
 use Rattle.lists.proofs.tally.lowered.Goals as goal
 

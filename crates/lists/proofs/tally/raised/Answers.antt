@@ -1,5 +1,4 @@
-use Prim.Native.Nat.{◌-◌, ◌/◌, ◌%◌, ◌^◌}
-use mathlib.Core.Path.{◌≡◌}
+use Prim.Native.Nat.{◌-◌}
 use native.Mathlib.Omega.{arith}
 use Rattle.lists.proofs.Masks.{shifted, inside, bit_fits}
 use Rattle.lists.proofs.tally.raised.Goals as goal

@@ -1,7 +1,6 @@
-use Rattle.lists.proofs.Entries.{length_counted, no_position, past_position, stored}
+use Rattle.lists.proofs.Entries.{no_position, past_position, stored}
 use Rattle.lists.proofs.Listing.{length_of_map}
 use lib.ListN.{length}
-use native.Mathlib.Omega.{arith}
 use mathlib.Core.Path.{◌≡◌}
 use borrow.Author.Rules.{rules}
 use Rattle.lists.proofs.list.ContractList.with_priority.Goals as goal
