@@ -449,6 +449,7 @@ pub fn read(bytes: &[u8]) -> HolderRead
     refused(Refusal::WRONG_LENGTH)
 }
 
+#[tactic(auto, using(records::proofs::Answering::area_room))]
 fn read_area(bytes: &[u8]) -> HolderRead
     requires { area_length (length bytes.now) ≡ true }
     ensures { result ≡ holder_read bytes.now }
@@ -481,6 +482,7 @@ pub fn write(bytes: &mut [u8], h: Holder) -> Refusal
     Refusal::WRONG_LENGTH
 }
 
+#[tactic(auto, using(records::proofs::Answering::area_room))]
 fn write_area(bytes: &mut [u8], h: Holder) -> Refusal
     requires { area_length (length bytes.old) ≡ true }
     ensures { record { answer = result; bytes = bytes.new } ≡ holder_written bytes.old h }

@@ -4,7 +4,7 @@ use lib.ListN.{length}
 use Rattle.bits.specs.Bits.{cut, spread}
 use Rattle.bits.proofs.Cutting.{length-spread}
 use Rattle.rows.proofs.Tables.{holder_rows}
-use Rattle.records.proofs.Answering.{area_read, area_refused, area_room}
+use Rattle.records.proofs.Answering.{area_read, area_refused}
 use Rattle.holder.proofs.Letters.{read_back}
 use borrow.Author.Rules.{rules}
 use Rattle.holder.proofs.read_area.Goals as goal
@@ -32,12 +32,3 @@ returns c =
     })
     (search rules)
     ∙ area_read _ _ _ bytes words _ _ (omega (arith, holder_rows)) c.requires cuts c.take_fields-fields.ensures c.if-last-ne0.false left
-
-pub overflow_cast-end : goal.overflow_cast-end
-overflow_cast-end c = omega (arith, area_room _ c.requires)
-
-pub overflow_mul-end : goal.overflow_mul-end
-overflow_mul-end c = omega (arith, area_room _ c.requires)
-
-pub take_fields-fields-requires : goal.take_fields-fields-requires
-take_fields-fields-requires c = (search rules, omega (arith, area_room _ c.requires))

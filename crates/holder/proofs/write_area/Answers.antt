@@ -2,8 +2,7 @@ use mathlib.Core.Path.{refl}
 use native.Mathlib.Omega.{arith}
 use Rattle.rows.specs.Table.Holder.{holder}
 use Rattle.rows.proofs.Tables.{holder_rows}
-use Rattle.records.proofs.Answering.{area_unput, area_written, area_room}
-use borrow.Author.Rules.{rules}
+use Rattle.records.proofs.Answering.{area_unput, area_written}
 use Rattle.holder.proofs.write_area.Goals as goal
 
 pub returns-then-last-ne0 : goal.returns-then-last-ne0
@@ -15,12 +14,3 @@ unfolding holder
 returns c =
     rw c.met-2.ensures
     (area_written holder _ _ _ _ _ _ _ (omega (arith, holder_rows)) refl refl _ _ _ c.if-last-ne0.false c.end.ensures c.requires c.put_fields-last.ensures.puts c.put_area-end.ensures)
-
-pub overflow_cast-room : goal.overflow_cast-room
-overflow_cast-room c = omega (arith, area_room _ c.requires)
-
-pub overflow_mul-room : goal.overflow_mul-room
-overflow_mul-room c = omega (arith, area_room _ c.requires)
-
-pub put_fields-last-requires : goal.put_fields-last-requires
-put_fields-last-requires c = (search rules, omega (arith, area_room _ c.requires))
