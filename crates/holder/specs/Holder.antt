@@ -1,8 +1,8 @@
 -- Holder as a value: named numbers, in the order of the table's slots, and its margin. A text is a list of its letters.
-use Rattle.std.specs.Prelude.{ℕ, ◌+◌, List, [], ◌∷◌, ◌++◌, ◌≡◌, length, get_or}
+use Rattle.std.specs.Prelude.{ℕ, ◌+◌, List, [], ◌∷◌, ◌++◌, ◌≡◌, length, get_or, Result, Ok, Err}
 use Rattle.rows.specs.Table.Holder.{holder}
-use Rattle.records.specs.Answer.{Written, refusal, read_area, write_area, from}
-use Rattle.records.specs.Answer.{Answer}
+use Rattle.records.specs.Answer.{Answer, Written, as_answer, refusal, read_area, write_area, from}
+use Rattle.records.specs.declared.Refusal.{Refusal}
 use Rattle.holder.specs.declared.Holder.{Holder}
 use Rattle.holder.specs.declared.Profile.{Profile}
 
@@ -96,12 +96,22 @@ pub record Spelled (h : Holder) : Type 0 where
   pub birth_name : length h.birth_name ≡ 17
   pub margin : length h.margin ≡ 15
 
+-- The answer to a reading.
+pub record HolderRead : Type 0 where
+  pub refusal : Answer
+  pub holder : Holder
+
 abbrev pub read_of : Holder → HolderRead
 read_of h = record { refusal = refusal 0 0; holder = h }
 
 -- Refused, the Holder is of zeros.
 abbrev pub unread : Answer → HolderRead
 unread r = record { refusal = r; holder = holder_of [] [] }
+
+-- The answer that code gives.
+abbrev pub holder_answer : Result Holder Refusal → HolderRead
+holder_answer (Ok h) = read_of h
+holder_answer (Err r) = unread (as_answer r)
 
 abbrev pub holder_read : List ℕ → HolderRead
 holder_read bytes = read_area (λ vals margin. read_of (holder_of vals margin)) unread holder bytes

@@ -2,14 +2,16 @@
 #![tactic(auto)]
 
 ghost use Rattle.std.specs.Prelude.{◌≡◌, [], ◌∷◌, true, ◌+◌, ◌≤◌, length};
+ghost use Rattle.rows.specs.Inner.Standing.{stand};
 ghost use Rattle.rows.specs.Inner.Step.{Ready, Took, Drafted, Gave};
 ghost use Rattle.rows.specs.Inner.Line.{start, Taken, Given};
 ghost use Rattle.rows.specs.Table.Holder.{holder};
-ghost use Rattle.records.specs.Answer.{area_length, from};
-ghost use Rattle.holder.specs.Holder.{profile_of, numbers_of, with_texts, holder_of, unread, holder_read, holder_written};
+ghost use Rattle.records.specs.Answer.{answer_of, area_length, from};
+ghost use Rattle.holder.specs.Holder.{profile_of, numbers_of, with_texts, holder_of, holder_answer, holder_read, holder_written};
 ghost use Rattle.holder.specs.Inner.Steps.{block, ProfileTook, ProfileGave};
 
 use records::Refusal;
+use rows::take::Part;
 use rows::{Cursor, Rule, When, margin, put, take};
 use std::array;
 
@@ -51,26 +53,6 @@ pub struct Holder {
     pub start4: u32,
     // as a record's, over the bits of four records and 32 that no area has
     pub margin: [u64; 15],
-}
-
-// Refused, the Holder is of zeros.
-#[derive(Clone, Copy)]
-pub struct HolderRead {
-    pub refusal: Refusal,
-    pub holder: Holder,
-}
-
-#[derive(Clone, Copy)]
-struct ProfileTaken {
-    value: Profile,
-    last: Cursor,
-}
-
-// The Holder taken so far, and the cursor behind the last field.
-#[derive(Clone, Copy)]
-struct Fields {
-    value: Holder,
-    last: Cursor,
 }
 
 impl Profile {
@@ -274,9 +256,9 @@ pub fn is_area(n: usize) -> bool
     matches!(n, 29 | 58 | 87 | 116)
 }
 
-fn take_person(words: &[u64], end: u32) -> Fields
+fn take_person(words: &[u64], end: u32) -> Part<Holder>
     requires { (length words.now ≡ 30) × (end ≤ 928) }
-    ensures { Taken words.now end (block 0 8) [] start (from 0 78 (numbers_of result.value)) result.last }
+    ensures { Taken words.now end (block 0 8) [] start (from 0 78 (numbers_of result.value)) (stand result.last) }
 {
     let mut surname = [0u32; 17];
     let mut forename = [0u32; 17];
@@ -305,13 +287,13 @@ fn take_person(words: &[u64], end: u32) -> Fields
     h.birth_date = date.number;
     h.birth_place = birth_place;
     h.birth_name = birth_name;
-    Fields { value: h, last }
+    Part { value: h, last }
 }
 
-fn take_identity(words: &[u64], end: u32, fields: Fields) -> Fields
-    requires { Ready words.now end fields.last }
-    ensures { Taken words.now end (block 8 4) (from 0 78 (numbers_of fields.value)) fields.last
-        (from 0 82 (numbers_of result.value)) result.last }
+fn take_identity(words: &[u64], end: u32, fields: Part<Holder>) -> Part<Holder>
+    requires { Ready words.now end (stand fields.last) }
+    ensures { Taken words.now end (block 8 4) (from 0 78 (numbers_of fields.value)) (stand fields.last)
+        (from 0 82 (numbers_of result.value)) (stand result.last) }
 {
     let c = fields.last;
     let mut h = fields.value;
@@ -323,22 +305,22 @@ fn take_identity(words: &[u64], end: u32, fields: Fields) -> Fields
     h.country = country.number;
     h.company = company.number;
     h.profile_count = count.number;
-    Fields {
+    Part {
         value: h,
         last: count,
     }
 }
 
 // Profile k, from 0, of so many.
-fn take_profile(words: &[u64], end: u32, c: Cursor, count: u32, k: u32) -> ProfileTaken
-    requires { Ready words.now end c }
-    ensures { ProfileTook words.now end c count k result.value result.last }
+fn take_profile(words: &[u64], end: u32, c: Cursor, count: u32, k: u32) -> Part<Profile>
+    requires { Ready words.now end (stand c) }
+    ensures { ProfileTook words.now end (stand c) count k result.value (stand result.last) }
 {
     let bitmap = take::number(words, end, c, When::Above(count, k), 3);
     let network = take::number(words, end, bitmap, When::Bit(bitmap.number, 0), 24);
     let number = take::number(words, end, network, When::Bit(bitmap.number, 1), 8);
     let date = take::number(words, end, number, When::Bit(bitmap.number, 2), 14);
-    ProfileTaken {
+    Part {
         value: Profile {
             bitmap: bitmap.number,
             network: network.number,
@@ -349,10 +331,10 @@ fn take_profile(words: &[u64], end: u32, c: Cursor, count: u32, k: u32) -> Profi
     }
 }
 
-fn take_profiles(words: &[u64], end: u32, fields: Fields) -> Fields
-    requires { Ready words.now end fields.last }
-    ensures { Taken words.now end (block 12 16) (from 0 82 (numbers_of fields.value)) fields.last
-        (from 0 98 (numbers_of result.value)) result.last }
+fn take_profiles(words: &[u64], end: u32, fields: Part<Holder>) -> Part<Holder>
+    requires { Ready words.now end (stand fields.last) }
+    ensures { Taken words.now end (block 12 16) (from 0 82 (numbers_of fields.value)) (stand fields.last)
+        (from 0 98 (numbers_of result.value)) (stand result.last) }
 {
     let c = fields.last;
     let mut h = fields.value;
@@ -370,21 +352,21 @@ fn take_profiles(words: &[u64], end: u32, fields: Fields) -> Fields
     let profile3 = p3.value;
     let profile4 = p4.value;
     h.profiles = [profile1, profile2, profile3, profile4];
-    Fields { value: h, last }
+    Part { value: h, last }
 }
 
 // A residence, work or study place.
 fn take_place(words: &[u64], end: u32, c: Cursor, when: When) -> Cursor
-    requires { Ready words.now end c }
-    ensures { Took words.now end c when (17 ∷ []) (Rule.Most 99999) (result.number ∷ []) result }
+    requires { Ready words.now end (stand c) }
+    ensures { Took words.now end (stand c) when (17 ∷ []) (Rule.Most 99999) (result.number ∷ []) (stand result) }
 {
     take::at_most(words, end, c, when, 17, 99999)
 }
 
-fn take_data(words: &[u64], end: u32, fields: Fields) -> Fields
-    requires { Ready words.now end fields.last }
-    ensures { Taken words.now end (block 28 13) (from 0 98 (numbers_of fields.value)) fields.last
-        (numbers_of result.value) result.last }
+fn take_data(words: &[u64], end: u32, fields: Part<Holder>) -> Part<Holder>
+    requires { Ready words.now end (stand fields.last) }
+    ensures { Taken words.now end (block 28 13) (from 0 98 (numbers_of fields.value)) (stand fields.last)
+        (numbers_of result.value) (stand result.last) }
 {
     let c = fields.last;
     let mut h = fields.value;
@@ -414,15 +396,15 @@ fn take_data(words: &[u64], end: u32, fields: Fields) -> Fields
     h.start2 = start2.number;
     h.start3 = start3.number;
     h.start4 = start4.number;
-    Fields {
+    Part {
         value: h,
         last: start4,
     }
 }
 
-fn take_fields(words: &[u64], end: u32) -> Fields
+fn take_fields(words: &[u64], end: u32) -> Part<Holder>
     requires { (length words.now ≡ 30) × (end ≤ 928) }
-    ensures { Taken words.now end holder [] start (numbers_of result.value) result.last }
+    ensures { Taken words.now end holder [] start (numbers_of result.value) (stand result.last) }
 {
     let person = take_person(words, end);
     let identity = take_identity(words, end, person);
@@ -430,69 +412,53 @@ fn take_fields(words: &[u64], end: u32) -> Fields
     take_data(words, end, profiles)
 }
 
-fn refused(refusal: Refusal) -> HolderRead
-    ensures { result ≡ unread refusal }
-{
-    HolderRead {
-        refusal,
-        holder: Holder::ZERO,
-    }
-}
-
 // The Holder in a lent area.
-pub fn read(bytes: &[u8]) -> HolderRead
-    ensures { result ≡ holder_read bytes.now }
+pub fn read(bytes: &[u8]) -> Result<Holder, Refusal>
+    ensures { holder_answer result ≡ holder_read bytes.now }
 {
     if is_area(bytes.len()) {
         return read_area(bytes);
     }
-    refused(Refusal::WRONG_LENGTH)
+    Err(Refusal::WRONG_LENGTH)
 }
 
 #[tactic(auto, using(records::proofs::Answering::area_room))]
-fn read_area(bytes: &[u8]) -> HolderRead
+fn read_area(bytes: &[u8]) -> Result<Holder, Refusal>
     requires { area_length (length bytes.now) ≡ true }
-    ensures { result ≡ holder_read bytes.now }
+    ensures { holder_answer result ≡ holder_read bytes.now }
 {
     let end = 8 * bytes.len() as u32;
     let mut words = [0u64; 30];
     bits::area_words(bytes, &mut words);
     let fields = take_fields(&words, end);
     let last = fields.last;
-    if last.why != 0 {
-        return refused(Refusal::met(last));
-    }
+    Refusal::met(last)?;
     let mut left = [0u64; 15];
     margin::take_area(&words, end, last.at, &mut left);
     let mut holder = fields.value;
     holder.margin = left;
-    HolderRead {
-        refusal: Refusal::NONE,
-        holder,
-    }
+    Ok(holder)
 }
 
 // Writes a Holder to a lent area, all of it; refused, the area is as it was.
-pub fn write(bytes: &mut [u8], h: Holder) -> Refusal
-    ensures { record { answer = result; bytes = bytes.new } ≡ holder_written bytes.old h }
+pub fn write(bytes: &mut [u8], h: Holder) -> Result<(), Refusal>
+    ensures { record { answer = answer_of result; bytes = bytes.new } ≡ holder_written bytes.old h }
 {
     if is_area(bytes.len()) {
         return write_area(bytes, h);
     }
-    Refusal::WRONG_LENGTH
+    Err(Refusal::WRONG_LENGTH)
 }
 
 #[tactic(auto, using(records::proofs::Answering::area_room))]
-fn write_area(bytes: &mut [u8], h: Holder) -> Refusal
+fn write_area(bytes: &mut [u8], h: Holder) -> Result<(), Refusal>
     requires { area_length (length bytes.old) ≡ true }
-    ensures { record { answer = result; bytes = bytes.new } ≡ holder_written bytes.old h }
+    ensures { record { answer = answer_of result; bytes = bytes.new } ≡ holder_written bytes.old h }
 {
     let room = 8 * bytes.len() as u32;
     let mut draft = [0u64; 31];
     let last = put_fields(&mut draft, room, h);
-    if last.why != 0 {
-        return Refusal::met(last);
-    }
+    Refusal::met(last)?;
     let whole = h.margin;
     let end = margin::put_area(&mut draft, room, last, &whole);
     put::end(&draft, end, bytes);
@@ -501,7 +467,7 @@ fn write_area(bytes: &mut [u8], h: Holder) -> Refusal
 
 fn put_fields(draft: &mut [u64], room: u32, h: Holder) -> Cursor
     requires { (length draft.old ≡ 31) × (room ≤ 928) }
-    ensures { Given room (numbers_of h) holder [] draft.old start (numbers_of h) draft.new result }
+    ensures { Given room (numbers_of h) holder [] draft.old start (numbers_of h) draft.new (stand result) }
 {
     let profiles = h.profiles;
     let profile1 = profiles[0];
@@ -519,7 +485,7 @@ fn put_fields(draft: &mut [u64], room: u32, h: Holder) -> Cursor
 
 fn put_person(draft: &mut [u64], room: u32, h: Holder) -> Cursor
     requires { (length draft.old ≡ 31) × (room ≤ 928) }
-    ensures { Given room (numbers_of h) (block 0 8) [] draft.old start (from 0 78 (numbers_of h)) draft.new result }
+    ensures { Given room (numbers_of h) (block 0 8) [] draft.old start (from 0 78 (numbers_of h)) draft.new (stand result) }
 {
     let surname = h.surname;
     let forename = h.forename;
@@ -543,9 +509,9 @@ fn put_person(draft: &mut [u64], room: u32, h: Holder) -> Cursor
 }
 
 fn put_identity(draft: &mut [u64], room: u32, c: Cursor, h: Holder) -> Cursor
-    requires { Drafted draft.old room c }
-    ensures { Given room (numbers_of h) (block 8 4) (from 0 78 (numbers_of h)) draft.old c
-        (from 0 82 (numbers_of h)) draft.new result }
+    requires { Drafted draft.old room (stand c) }
+    ensures { Given room (numbers_of h) (block 8 4) (from 0 78 (numbers_of h)) draft.old (stand c)
+        (from 0 82 (numbers_of h)) draft.new (stand result) }
 {
     let c = put::number(draft, room, c, When::Bit(h.bitmap, 3), 32, h.id);
     let c = put::number(draft, room, c, When::Bit(h.bitmap, 4), 24, h.country);
@@ -563,8 +529,8 @@ fn put_identity(draft: &mut [u64], room: u32, c: Cursor, h: Holder) -> Cursor
 
 // Profile k, from 0, of so many.
 fn put_profile(draft: &mut [u64], room: u32, c: Cursor, count: u32, k: u32, p: Profile) -> Cursor
-    requires { Drafted draft.old room c }
-    ensures { ProfileGave draft.old draft.new room c count k p result }
+    requires { Drafted draft.old room (stand c) }
+    ensures { ProfileGave draft.old draft.new room (stand c) count k p (stand result) }
 {
     let c = put::number(draft, room, c, When::Above(count, k), 3, p.bitmap);
     let c = put::number(draft, room, c, When::Bit(p.bitmap, 0), 24, p.network);
@@ -573,16 +539,16 @@ fn put_profile(draft: &mut [u64], room: u32, c: Cursor, count: u32, k: u32, p: P
 }
 
 fn put_place(draft: &mut [u64], room: u32, c: Cursor, when: When, v: u32) -> Cursor
-    requires { Drafted draft.old room c }
-    ensures { Gave draft.old draft.new room c when (17 ∷ []) (Rule.Most 99999) (v ∷ []) result }
+    requires { Drafted draft.old room (stand c) }
+    ensures { Gave draft.old draft.new room (stand c) when (17 ∷ []) (Rule.Most 99999) (v ∷ []) (stand result) }
 {
     put::at_most(draft, room, c, when, 17, 99999, v)
 }
 
 fn put_data(draft: &mut [u64], room: u32, c: Cursor, h: Holder) -> Cursor
-    requires { Drafted draft.old room c }
-    ensures { Given room (numbers_of h) (block 28 13) (from 0 98 (numbers_of h)) draft.old c
-        (numbers_of h) draft.new result }
+    requires { Drafted draft.old room (stand c) }
+    ensures { Given room (numbers_of h) (block 28 13) (from 0 98 (numbers_of h)) draft.old (stand c)
+        (numbers_of h) draft.new (stand result) }
 {
     let data = h.data_bitmap;
     let c = put::number(draft, room, c, When::Bit(h.bitmap, 7), 12, data);

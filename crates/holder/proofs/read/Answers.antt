@@ -1,5 +1,5 @@
 use mathlib.Core.Bool.{false}
-use mathlib.Core.Path.{◌≡◌, ◌∙◌}
+use mathlib.Core.Path.{◌≡◌}
 use lib.ListN.{length}
 use Rattle.records.specs.Answer.{area_length}
 use Rattle.records.proofs.Answering.{area_short}
@@ -8,4 +8,4 @@ use Rattle.holder.proofs.read.Goals as goal
 pub returns : goal.returns
 returns c =
     let short : area_length (length c.args.bytes.now) ≡ false = cc in
-    c.refused.ensures ∙ area_short _ _ _ _ short
+    area_short _ _ _ _ short
