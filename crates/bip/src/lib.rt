@@ -1,8 +1,7 @@
 // The contract record of the neighbouring region's BIP cards: 29 bytes, thirteen fields at fixed offsets, high byte first.
 #![tactic(auto)]
 
-ghost use Rattle.std.specs.Prelude.{◌≡◌, [], ◌*◌, ◌≤◌, length};
-ghost use Rattle.bits.specs.Bits.{bit};
+ghost use Rattle.std.specs.Prelude.{◌≡◌, [], length};
 ghost use Rattle.rows.specs.Inner.Standing.{stand};
 ghost use Rattle.rows.specs.Inner.Line.{start, Given};
 ghost use Rattle.records.specs.Answer.{answer_of, heard};
@@ -27,7 +26,7 @@ pub struct Weekdays {
 }
 
 impl Weekdays {
-    // Those of a byte: Monday is its lowest bit.
+    // Those of a byte: Monday is its lowest bit. Not a From: that would be public and take every u32, and be no plainer.
     fn of(byte: u32) -> Weekdays
         ensures { result ≡ days_of byte }
     {
@@ -46,25 +45,18 @@ impl Weekdays {
     fn byte(self) -> u32
         ensures { result ≡ byte_of self }
     {
-        worth(1, self.monday)
-            + worth(2, self.tuesday)
-            + worth(4, self.wednesday)
-            + worth(8, self.thursday)
-            + worth(16, self.friday)
-            + worth(32, self.saturday)
-            + worth(64, self.sunday)
-            + worth(128, self.holidays)
+        u32::from(self.monday)
+            + 2 * u32::from(self.tuesday)
+            + 4 * u32::from(self.wednesday)
+            + 8 * u32::from(self.thursday)
+            + 16 * u32::from(self.friday)
+            + 32 * u32::from(self.saturday)
+            + 64 * u32::from(self.sunday)
+            + 128 * u32::from(self.holidays)
     }
 }
 
-// What a day adds to the byte: so much, or nothing.
-fn worth(n: u32, day: bool) -> u32
-    ensures { (result ≡ n * bit day) × (result ≤ n) }
-{
-    n * u32::from(day)
-}
-
-// What the extension tag says of further records.
+// What the extension tag says of further records. No Option: the request Q-4 orders an enum of its own (docs/DECISIONS.md, "The forms").
 #[derive(Clone, Copy, Debug, PartialEq, Eq)]
 pub enum Extension {
     Nothing,
@@ -137,7 +129,7 @@ pub fn read(bytes: &[u8]) -> Result<BipContract, Refusal>
         return Err(Refusal::WRONG_LENGTH);
     }
     let mut words = [0u64; 8];
-    bits::words(&bytes[..], &mut words);
+    bits::words(bytes, &mut words);
     Ok(take_fields(&words))
 }
 
