@@ -3,26 +3,24 @@
 
 ghost use Rattle.std.specs.Prelude.{◌≡◌, ◌<◌, ◌≤◌, ◌/◌, ◌%◌, length, slice_index, EachIndex, MatchOption};
 ghost use Rattle.bits.specs.Bits.{spread, leading, join as joined};
+ghost use Rattle.records.specs.Answer.{answer_of};
 ghost use Rattle.gate.specs.Writes.{applying, finding, joining, applied, only, writes_of};
 
-use records::{BITS, BYTES, MOST_RECORDS, Refusal};
+use records::{BITS, BYTES, MOST_RECORDS, Refusal, Why};
 
 // Raises in the lent record every bit that is one in a lent write.
 #[tactic(auto, unfolding(crate::specs::Writes::applying))]
-pub fn apply(record: &mut [u8], writes: &[u8]) -> Refusal
-    ensures { record { answer = result; bytes = «record».new } ≡ applying «record».old writes.now }
+pub fn apply(record: &mut [u8], writes: &[u8]) -> Result<(), Refusal>
+    ensures { record { answer = answer_of result; bytes = «record».new } ≡ applying «record».old writes.now }
 {
-    if record.len() != BYTES {
-        return Refusal::WRONG_LENGTH;
-    }
-    if writes.len() % BYTES != 0 {
-        return Refusal::WRONG_LENGTH;
+    if record.len() != BYTES || writes.len() % BYTES != 0 {
+        return Err(Refusal::WRONG_LENGTH);
     }
     if MOST_RECORDS < writes.len() / BYTES {
-        return Refusal::OUTSIDE_LIMITS;
+        return Err(Refusal::OUTSIDE_LIMITS);
     }
     raise_all(record, writes);
-    Refusal::NONE
+    Ok(())
 }
 
 // The writes, one after the other.
@@ -47,27 +45,21 @@ fn raise(record: &mut [u8], write: &[u8])
 
 // Writes to the third record the bits that are one in wanted and zero in present: 10 where a bit would have to fall.
 #[tactic(auto, unfolding(crate::specs::Writes::finding))]
-pub fn find(present: &[u8], wanted: &[u8], write: &mut [u8]) -> Refusal
-    ensures { record { answer = result; bytes = write.new } ≡ finding present.now wanted.now write.old }
+pub fn find(present: &[u8], wanted: &[u8], write: &mut [u8]) -> Result<(), Refusal>
+    ensures { record { answer = answer_of result; bytes = write.new } ≡ finding present.now wanted.now write.old }
 {
-    if present.len() != BYTES {
-        return Refusal::WRONG_LENGTH;
-    }
-    if wanted.len() != BYTES {
-        return Refusal::WRONG_LENGTH;
-    }
-    if write.len() != BYTES {
-        return Refusal::WRONG_LENGTH;
+    if present.len() != BYTES || wanted.len() != BYTES || write.len() != BYTES {
+        return Err(Refusal::WRONG_LENGTH);
     }
     if let Some(place) = first_fall(present, wanted) {
-        return Refusal {
-            number: 10,
+        return Err(Refusal {
+            why: Why::MustFall,
             place,
             field: 0,
-        };
+        });
     }
     keep_only(wanted, present, write);
-    Refusal::NONE
+    Ok(())
 }
 
 // The first bit that is one in present and zero in wanted.
@@ -76,7 +68,7 @@ fn first_fall(present: &[u8], wanted: &[u8]) -> Option<u32>
     ensures { let at = leading (only (spread 8 present.now) (spread 8 wanted.now)) in
         MatchOption result (232 ≤ at) (λ place. (place ≡ at) × (place < 232)) }
 {
-    let mut falls = [0u8; 29];
+    let mut falls = [0u8; BYTES];
     keep_only(present, wanted, &mut falls);
     let mut words = [0u64; 8];
     bits::words(&falls, &mut words);
@@ -105,20 +97,14 @@ fn each_byte<F: Fn(u8, u8) -> u8>(a: &[u8], b: &[u8], out: &mut [u8], made: F)
 
 // Writes to the third record the two writes as one: bitwise or.
 #[tactic(auto, unfolding(crate::specs::Writes::joining))]
-pub fn join(a: &[u8], b: &[u8], write: &mut [u8]) -> Refusal
-    ensures { record { answer = result; bytes = write.new } ≡ joining a.now b.now write.old }
+pub fn join(a: &[u8], b: &[u8], write: &mut [u8]) -> Result<(), Refusal>
+    ensures { record { answer = answer_of result; bytes = write.new } ≡ joining a.now b.now write.old }
 {
-    if a.len() != BYTES {
-        return Refusal::WRONG_LENGTH;
-    }
-    if b.len() != BYTES {
-        return Refusal::WRONG_LENGTH;
-    }
-    if write.len() != BYTES {
-        return Refusal::WRONG_LENGTH;
+    if a.len() != BYTES || b.len() != BYTES || write.len() != BYTES {
+        return Err(Refusal::WRONG_LENGTH);
     }
     both(a, b, write);
-    Refusal::NONE
+    Ok(())
 }
 
 // The bits that are one in a or in b.
