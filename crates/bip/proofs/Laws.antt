@@ -16,18 +16,17 @@ use Rattle.rows.specs.Row.{pick}
 use Rattle.rows.specs.Walk.{Outcome, done, refused, Content, numbers, read, write}
 use Rattle.rows.proofs.RoundTrip.{reading}
 use Rattle.rows.proofs.Margins.{cut_none}
-use Rattle.records.specs.Answer.{Written, refusal, refusal_at, accepted, denied, written, answered, valued, content, read_record, write_record}
-use Rattle.records.specs.Answer.{Answer}
+use Rattle.records.specs.Answer.{Answer, Written, refusal, refusal_at, accepted, denied, written, answered, valued, content, read_record, write_record}
 use Rattle.records.proofs.Inverse.{slots_read_write, slots_write_read}
 use Rattle.records.proofs.Coming.{ComesTo, unwritten, comes_within, record_comes, record_write_comes}
 use Rattle.bip.specs.Table.{bip}
-use Rattle.bip.specs.Value.{numbers_of, bip_of, bip_read, bip_written}
+use Rattle.bip.specs.Value.{BipRead, numbers_of, bip_of, bip_read, bip_written}
 use Rattle.bip.specs.declared.BipContract.{BipContract}
 use Rattle.std.specs.Prelude.{Ok, Err}
 use Rattle.bip.proofs.Whole.{widths, frame_bip, bip_size, reads_whole}
 use Rattle.bip.proofs.Values.{numbers_back, value_back}
 
-same : (a b : BipContract) → Ok a ≡ Ok b → a ≡ b
+same : (a b : BipContract) → ◌≡◌ {A = BipRead} (Ok a) (Ok b) → a ≡ b
 same a b h = cc
 
 apart : (r : Answer) (b : BipContract) → Err r ≡ Ok b → ⊥

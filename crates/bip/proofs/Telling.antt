@@ -9,10 +9,9 @@ use Rattle.bits.specs.Bits.{bit, odd}
 use Rattle.rows.specs.Row.{pick}
 use Rattle.records.specs.Answer.{Told, refusal_at}
 use Rattle.records.proofs.Telling.{told_one}
-use Rattle.bip.specs.Value.{tagged, carried, bip_told}
+use Rattle.bip.specs.Value.{BipRead, tagged, carried, bip_told}
 use Rattle.bip.specs.declared.Extension.{Extension}
 use Rattle.bip.specs.declared.Extension.TheVariants.{Nothing, Tag}
-use Rattle.bip.specs.Value.{BipRead}
 use Rattle.std.specs.Prelude.{Ok, Err}
 
 abbrev bip_back : Told → BipRead

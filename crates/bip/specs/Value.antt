@@ -1,15 +1,14 @@
 -- The BIP contract as a value, and the numbers that stand for it in the fields. Document 02, Q-4; source document 000, sections 3.4 and
 -- 3.10.
-use Rattle.std.specs.Prelude.{ℕ, ◌+◌, ◌-◌, ◌*◌, ◌/◌, ◌^◌, List, [], ◌∷◌, eqb, ltb, get_or, replicate}
+use Rattle.std.specs.Prelude.{ℕ, ◌+◌, ◌-◌, ◌*◌, ◌/◌, ◌^◌, List, [], ◌∷◌, eqb, ltb, get_or, replicate, Result, Ok, Err}
 use Rattle.bits.specs.Bits.{bit, odd}
 use Rattle.rows.specs.Row.{pick}
-use Rattle.records.specs.Answer.{Written, Told, told_value, told_refusal, read_record, write_record}
+use Rattle.records.specs.Answer.{Answer, Written, Told, told_value, told_refusal, read_record, write_record}
 use Rattle.bip.specs.Table.{bip}
 use Rattle.bip.specs.declared.Weekdays.{Weekdays}
 use Rattle.bip.specs.declared.Extension.{Extension}
 use Rattle.bip.specs.declared.Extension.TheVariants.{Nothing, Tag}
 use Rattle.bip.specs.declared.BipContract.{BipContract}
-use Rattle.std.specs.Prelude.{Ok, Err}
 
 -- One's complement over three bytes: what stands in the record for a date, minutes since 1/1/2005, and the date for which it stands there. A
 -- date too wide stays too wide.
@@ -119,6 +118,10 @@ values_of b =
     ∷ carried b.extension
     ∷ b.mac
     ∷ []
+
+-- The answer to a reading.
+abbrev pub BipRead : Type 0
+BipRead = Result BipContract Answer
 
 -- The cases of the answer, each by its number, its place, its field and its values.
 abbrev pub bip_told : BipRead → Told

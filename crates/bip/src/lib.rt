@@ -1,9 +1,10 @@
 // The contract record of the neighbouring region's BIP cards: 29 bytes, thirteen fields at fixed offsets, high byte first.
 #![tactic(auto)]
 
-ghost use Rattle.std.specs.Prelude.{◌≡◌, [], ◌*◌, ◌≤◌, length};
-ghost use Rattle.bits.specs.Bits.{bit};
+ghost use Rattle.std.specs.Prelude.{◌≡◌, [], length};
+ghost use Rattle.rows.specs.Inner.Standing.{stand};
 ghost use Rattle.rows.specs.Inner.Line.{start, Given};
+ghost use Rattle.records.specs.Answer.{answer_of, heard};
 ghost use Rattle.bip.specs.Table.{bip};
 ghost use Rattle.bip.specs.Value.{days_of, byte_of, extension_of, tag_of, complement, numbers_of, bip_told, bip_read, bip_written};
 ghost use Rattle.bip.specs.Inner.Whole.{TakenWhole};
@@ -12,7 +13,7 @@ use records::{BITS, BYTES, Refusal};
 use rows::{Cursor, When, put, take};
 
 // The days on which a contract is valid.
-#[derive(Clone, Copy)]
+#[derive(Clone, Copy, Debug, PartialEq, Eq)]
 pub struct Weekdays {
     pub monday: bool,
     pub tuesday: bool,
@@ -25,7 +26,7 @@ pub struct Weekdays {
 }
 
 impl Weekdays {
-    // Those of a byte: Monday is its lowest bit.
+    // Those of a byte: Monday is its lowest bit. Not a From: that would be public and take every u32, and be no plainer.
     fn of(byte: u32) -> Weekdays
         ensures { result ≡ days_of byte }
     {
@@ -44,26 +45,19 @@ impl Weekdays {
     fn byte(self) -> u32
         ensures { result ≡ byte_of self }
     {
-        worth(1, self.monday)
-            + worth(2, self.tuesday)
-            + worth(4, self.wednesday)
-            + worth(8, self.thursday)
-            + worth(16, self.friday)
-            + worth(32, self.saturday)
-            + worth(64, self.sunday)
-            + worth(128, self.holidays)
+        u32::from(self.monday)
+            + 2 * u32::from(self.tuesday)
+            + 4 * u32::from(self.wednesday)
+            + 8 * u32::from(self.thursday)
+            + 16 * u32::from(self.friday)
+            + 32 * u32::from(self.saturday)
+            + 64 * u32::from(self.sunday)
+            + 128 * u32::from(self.holidays)
     }
 }
 
-// What a day adds to the byte: so much, or nothing.
-fn worth(n: u32, day: bool) -> u32
-    ensures { (result ≡ n * bit day) × (result ≤ n) }
-{
-    if day { n } else { 0 }
-}
-
-// What the extension tag says of further records.
-#[derive(Clone, Copy)]
+// What the extension tag says of further records. No Option: the request Q-4 orders an enum of its own (docs/DECISIONS.md, "The forms").
+#[derive(Clone, Copy, Debug, PartialEq, Eq)]
 pub enum Extension {
     Nothing,
     Tag(u32),
@@ -91,17 +85,13 @@ impl Extension {
     {
         match self {
             Extension::Nothing => Extension::NO_TAG,
-            Extension::Tag(tag) => {
-                if tag == Extension::NO_TAG {
-                    return Extension::TOO_WIDE;
-                }
-                tag
-            }
+            Extension::Tag(Extension::NO_TAG) => Extension::TOO_WIDE,
+            Extension::Tag(tag) => tag,
         }
     }
 }
 
-#[derive(Clone, Copy)]
+#[derive(Clone, Copy, Debug, PartialEq, Eq)]
 pub struct BipContract {
     pub company: u32,
     pub format: u32,
@@ -118,12 +108,6 @@ pub struct BipContract {
     pub mac: u32,
 }
 
-#[derive(Clone, Copy)]
-pub enum BipRead {
-    Read(BipContract),
-    Refused(Refusal),
-}
-
 // One more than the last date of three bytes.
 const DATES: u32 = 1 << 24;
 
@@ -138,16 +122,15 @@ fn complement(date: u32) -> u32
 }
 
 // The contract in a lent record. All 29 bytes are of fields that take every number, so that nothing but their count is refused.
-pub fn read(bytes: &[u8]) -> BipRead
-    ensures { bip_told result ≡ bip_told (bip_read bytes.now) }
+pub fn read(bytes: &[u8]) -> Result<BipContract, Refusal>
+    ensures { bip_told (heard result) ≡ bip_told (bip_read bytes.now) }
 {
     if bytes.len() != BYTES {
-        return BipRead::Refused(Refusal::WRONG_LENGTH);
+        return Err(Refusal::WRONG_LENGTH);
     }
     let mut words = [0u64; 8];
-    bits::words(&bytes[..], &mut words);
-    let value = take_fields(&words);
-    BipRead::Read(value)
+    bits::words(bytes, &mut words);
+    Ok(take_fields(&words))
 }
 
 fn take_fields(words: &[u64]) -> BipContract
@@ -185,11 +168,11 @@ fn take_fields(words: &[u64]) -> BipContract
 }
 
 // Writes a contract to a lent record, all of it; refused, the record is as it was.
-pub fn write(bytes: &mut [u8], b: BipContract) -> Refusal
-    ensures { record { answer = result; bytes = bytes.new } ≡ bip_written bytes.old b }
+pub fn write(bytes: &mut [u8], b: BipContract) -> Result<(), Refusal>
+    ensures { record { answer = answer_of result; bytes = bytes.new } ≡ bip_written bytes.old b }
 {
     if bytes.len() != BYTES {
-        return Refusal::WRONG_LENGTH;
+        return Err(Refusal::WRONG_LENGTH);
     }
     let mut draft = [0u64; 9];
     let last = put_fields(&mut draft, b);
@@ -199,10 +182,8 @@ pub fn write(bytes: &mut [u8], b: BipContract) -> Refusal
 
 fn put_fields(draft: &mut [u64], b: BipContract) -> Cursor
     requires { length draft.old ≡ 9 }
-    ensures { Given 232 (numbers_of b) bip [] draft.old start (numbers_of b) draft.new result }
+    ensures { Given 232 (numbers_of b) bip [] draft.old start (numbers_of b) draft.new (stand result) }
 {
-    let days = b.days;
-    let extension = b.extension;
     let c = put::number(draft, BITS, Cursor::START, When::Always, 8, b.company);
     let c = put::number(draft, BITS, c, When::Always, 8, b.format);
     let c = put::number(draft, BITS, c, When::Always, 8, b.rfu);
@@ -211,9 +192,9 @@ fn put_fields(draft: &mut [u64], b: BipContract) -> Cursor
     let c = put::number(draft, BITS, c, When::Always, 24, b.serial);
     let c = put::number(draft, BITS, c, When::Always, 24, complement(b.start));
     let c = put::number(draft, BITS, c, When::Always, 24, complement(b.end));
-    let c = put::number(draft, BITS, c, When::Always, 8, days.byte());
+    let c = put::number(draft, BITS, c, When::Always, 8, b.days.byte());
     let c = put::number(draft, BITS, c, When::Always, 32, b.sam_serial);
     let c = put::number(draft, BITS, c, When::Always, 24, b.sam_counter);
-    let c = put::number(draft, BITS, c, When::Always, 16, extension.tag());
+    let c = put::number(draft, BITS, c, When::Always, 16, b.extension.tag());
     put::number(draft, BITS, c, When::Always, 32, b.mac)
 }

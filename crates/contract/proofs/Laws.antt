@@ -105,7 +105,7 @@ view kind there =
       kept = λ vals margin long. from_all 4 margin long;
     }
 
-same : (kind : ℕ) (a b : Agreed kind) → Ok a.0 ≡ Ok b.0 → a ≡ b
+same : (kind : ℕ) (a b : Agreed kind) → ◌≡◌ {A = ContractRead} (Ok a.0) (Ok b.0) → a ≡ b
 same kind a b h = Σ_prop_path (λ c. So-prop (agrees kind c)) (cc)
 
 apart : (r : Answer) (c : Contract) → Err r ≡ Ok c → ⊥

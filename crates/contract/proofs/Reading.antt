@@ -2,7 +2,7 @@
 use Prim.Native.Nat.{ℕ, ◌^◌, ◌<◌}
 use mathlib.Core.List.{List, [], ◌∷◌, ◌++◌, map, append-nil, append_assoc}
 use mathlib.Core.Bool.{Bool, true, false, false≢true}
-use mathlib.Core.Path.{◌≡◌, refl, ap, ◌∙◌}
+use mathlib.Core.Path.{◌≡◌, refl, sym, ap, ◌∙◌}
 use native.Mathlib.Omega.{arith}
 use lib.ListN.{length}
 use lib.Dec.{eqb}
@@ -12,10 +12,11 @@ use Rattle.bits.specs.Bits.{cut, spread, cleared}
 use Rattle.rows.specs.Inner.Step.{Ready}
 use Rattle.rows.specs.Inner.Line.{start, Takes, Taken}
 use Rattle.rows.specs.Inner.Standing.{Standing}
-use Rattle.rows.specs.Margin.{margin_of}
+use Rattle.rows.specs.Margin.{words_of, margin_of}
 use Rattle.rows.specs.Table.Contract.{head, data42, data50, contract42, contract50}
 use Rattle.rows.proofs.Running.{takes_append, stopped, Skips, skips_none, skips_more}
 use Rattle.rows.proofs.Tables.{carnet_rows, urban_rows}
+use Rattle.records.specs.Answer.{Answer}
 use Rattle.records.specs.Inner.Met.{met}
 use Rattle.contract.proofs.Absent.{zero_slots, absent}
 use Rattle.records.proofs.Answering.{record_read, record_refused}
@@ -24,20 +25,41 @@ use Rattle.contract.specs.declared.Contract.{Contract}
 use Rattle.contract.specs.declared.Data42.{Data42}
 use Rattle.contract.specs.declared.Data50.{Data50}
 use Rattle.contract.specs.declared.Data.TheVariants.{Nothing, Carnet, Urban}
-use Rattle.contract.specs.Contract.{ContractRead}
+use Rattle.contract.specs.declared.Data.{Data}
+use Rattle.contract.specs.Inner.Steps.{TakeOf}
+use Rattle.rows.specs.declared.margin.Margin.{Margin}
+use Rattle.std.specs.Prelude.{◌≢◌}
 use Rattle.std.specs.Prelude.{Ok, Err}
 
--- The takes of a type's whole table.
-module _ (words : List ℕ) (kind : ℕ) (h : Contract) (c last : Standing) (front : Taken words 232 head [] start (head_numbers h) c) where
-  pub taken42 : (d : Data42) → is_carnet kind ≡ true → Taken words 232 data42 (head_numbers h) c (head_numbers h ++ numbers42 d) last
-      → Taken words 232 (table_of kind) [] start (head_numbers h ++ numbers42 d) last
+-- The takes of a type's whole table, where the data follow.
+module _ {words : List ℕ} {kind : ℕ} {h : Contract} {c last : Standing} (front : Taken words 232 head [] start (head_numbers h) c) (on : follow h.bitmap ≡ true) where
+  pub rest42 : (d : Data42) → is_carnet kind ≡ true → Taken words 232 data42 (head_numbers h) c (head_numbers h ++ numbers42 d) last
+      → TakeOf words kind h (Carnet d) last
   unfolding contract42
-  taken42 d e rest = rw e (record { takes = takes_append front.takes rest.takes; ready = rest.ready })
+  rest42 d e rest =
+      record {
+        behind = numbers42 d;
+        end = last;
+        taken = rw e (record { takes = takes_append front.takes rest.takes; ready = rest.ready });
+        here = refl;
+        clear = λ ok. ok;
+        same = λ why. refl;
+        made = λ margin. rw (e, on);
+      }
 
-  pub taken50 : (d : Data50) → is_carnet kind ≡ false → Taken words 232 data50 (head_numbers h) c (head_numbers h ++ numbers50 d) last
-      → Taken words 232 (table_of kind) [] start (head_numbers h ++ numbers50 d) last
+  pub rest50 : (d : Data50) → is_carnet kind ≡ false → Taken words 232 data50 (head_numbers h) c (head_numbers h ++ numbers50 d) last
+      → TakeOf words kind h (Urban d) last
   unfolding contract50
-  taken50 d e rest = rw e (record { takes = takes_append front.takes rest.takes; ready = rest.ready })
+  rest50 d e rest =
+      record {
+        behind = numbers50 d;
+        end = last;
+        taken = rw e (record { takes = takes_append front.takes rest.takes; ready = rest.ready });
+        here = refl;
+        clear = λ ok. ok;
+        same = λ why. refl;
+        made = λ margin. rw (e, on);
+      }
 
 -- Rows that are absent leave zeros in their slots.
 skip_rows : {words : List ℕ} (rs : List Row) (seen : List ℕ) (c : Standing) → Ready words 232 c → c.why ≡ 0 → absent rs seen ≡ true
@@ -63,17 +85,9 @@ off50 : (h : Contract) → follow h.bitmap ≡ false → absent data50 (head_num
 unfolding data50
 off50 h none = rw none
 
--- The takes of a type's whole table where no data follow: behind the head all rows are absent, or it was refused.
-pub record Rest (words : List ℕ) (kind : ℕ) (h : Contract) (c : Standing) : Type 0 where
-  pub behind : List ℕ
-  pub last : Standing
-  pub taken : Taken words 232 (table_of kind) [] start (head_numbers h ++ behind) last
-  pub here : last.at ≡ c.at
-  pub clear : c.why ≡ 0 → last.why ≡ 0
-  pub same : (c.why ≡ 0 → ⊥) → last ≡ c
-
+-- And where none follow: behind the head all rows are absent, or it was refused.
 pub rest_none : (words : List ℕ) (kind : ℕ) (h : Contract) (c : Standing) → Taken words 232 head [] start (head_numbers h) c → follow h.bitmap ≡ false
-    → Rest words kind h c
+    → TakeOf words kind h Nothing c
 unfolding contract42 contract50
 rest_none words kind h c front none = go (is_carnet kind) refl
   where
@@ -98,13 +112,13 @@ rest_none words kind h c front none = go (is_carnet kind) refl
         let stops : Takes words 232 rows (head_numbers h) c (head_numbers h ++ []) c = rw append-nil (stopped front.ready (eqb-false _ _ e) rows (head_numbers h)) in
         ([], c, record { takes = takes_append front.takes stops; ready = front.ready }, refl, λ ok. ok, λ why. refl)
 
-    go : (k : Bool) → is_carnet kind ≡ k → Rest words kind h c
+    go : (k : Bool) → is_carnet kind ≡ k → TakeOf words kind h Nothing c
     go true k =
         let (vs, last, takes, here, clear, same) = both data42 (off42 h none) (eqb c.why 0) refl in
-        record { behind = vs; last = last; taken = rw k takes; here = here; clear = clear; same = same }
+        record { behind = vs; end = last; taken = rw k takes; here = here; clear = clear; same = same; made = λ margin. rw none }
     go false k =
         let (vs, last, takes, here, clear, same) = both data50 (off50 h none) (eqb c.why 0) refl in
-        record { behind = vs; last = last; taken = rw k takes; here = here; clear = clear; same = same }
+        record { behind = vs; end = last; taken = rw k takes; here = here; clear = clear; same = same; made = λ margin. rw none }
 
 -- Both types have a table that is short enough.
 pub few_rows : (kind : ℕ) → length (table_of kind) < 2 ^ 32
@@ -114,31 +128,24 @@ few_rows kind = go (is_carnet kind)
     go true = omega (arith, carnet_rows)
     go false = omega (arith, urban_rows)
 
--- The contract of the numbers taken: with its data where they follow, and without.
-module _ (kind : ℕ) (h : Contract) (margin : List ℕ) where
-  pub made42 : (d : Data42) → is_carnet kind ≡ true → follow h.bitmap ≡ true
-      → contract_of kind (head_numbers h ++ numbers42 d) margin ≡ with_rest h (Carnet d) (margin_of margin)
-  made42 d e f = rw (e, f)
-
-  pub made50 : (d : Data50) → is_carnet kind ≡ false → follow h.bitmap ≡ true
-      → contract_of kind (head_numbers h ++ numbers50 d) margin ≡ with_rest h (Urban d) (margin_of margin)
-  made50 d e f = rw (e, f)
-
-  pub made_none : (vs : List ℕ) → follow h.bitmap ≡ false → contract_of kind (head_numbers h ++ vs) margin ≡ with_rest h Nothing (margin_of margin)
-  made_none vs f = rw f
-
 -- The answer at the end.
-module _ (kind : ℕ) (bytes words all : List ℕ) (last : Standing)
+module _ {kind : ℕ} (bytes : List ℕ) {words : List ℕ} {h : Contract} {d : Data} {last : Standing}
     (whole : length bytes ≡ 29)
     (there : known kind ≡ true)
     (cuts : words ≡ cut 32 64 8 (spread 8 bytes))
-    (taken : Taken words 232 (table_of kind) [] start all last) where
-  pub told_refused : (r : ContractRead) → r ≡ Err (met last) → (last.why ≡ 0 → ⊥) → contract_told r ≡ contract_told (contract_read kind bytes)
-  told_refused r is why =
-      rw (eq-eqb _ _ whole, there) (ap contract_told (is ∙ record_refused _ _ _ bytes words _ _ (few_rows kind) whole cuts taken why))
-
-  pub told_read : (r : ContractRead) → r ≡ Ok (contract_of kind all (cut 64 64 4 (cleared last.at (spread 8 bytes)))) → last.why ≡ 0
-      → contract_told r ≡ contract_told (contract_read kind bytes)
-  told_read r is ok =
+    (taken : TakeOf words kind h d last) where
+  pub told_refused : (a : Answer) → a ≡ met last → last.why ≢ 0 → contract_told (Err a) ≡ contract_told (contract_read kind bytes)
+  told_refused a is why =
+      let same : a ≡ met taken.end = is ∙ ap met (sym (taken.same why)) in
       rw (eq-eqb _ _ whole, there)
-      (ap contract_told (is ∙ record_read (λ vals margin. Ok (contract_of kind vals margin)) Err _ bytes words _ _ (few_rows kind) whole cuts taken ok refl))
+      (ap contract_told (ap Err same ∙ record_refused _ _ _ bytes words _ _ (few_rows kind) whole cuts taken.taken (rw (taken.same why) why)))
+
+  pub told_read : (m : Margin) → words_of m ≡ cut 64 64 4 (cleared last.at (spread 8 bytes)) → last.why ≡ 0
+      → contract_told (Ok (with_rest h d m)) ≡ contract_told (contract_read kind bytes)
+  told_read m is ok =
+      let margin : List ℕ = cut 64 64 4 (cleared taken.end.at (spread 8 bytes)) in
+      let left : words_of m ≡ margin = rw taken.here is in
+      let same : with_rest h d m ≡ contract_of kind (head_numbers h ++ taken.behind) margin =
+      ap (λ (ws : List ℕ). with_rest h d (margin_of ws)) left ∙ sym (taken.made margin) in
+      rw (eq-eqb _ _ whole, there)
+      (ap contract_told (ap Ok same ∙ record_read (λ vals margin. Ok (contract_of kind vals margin)) Err _ bytes words _ _ (few_rows kind) whole cuts taken.taken (taken.clear ok) refl))

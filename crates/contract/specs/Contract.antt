@@ -1,19 +1,18 @@
 -- Contract as a value: the numbers of the head, the data that follow it (none, those of 42h or those of 50h), and its margin. Document
 -- 01, "Contract, common head"; 02, Q-7.
-use Rattle.std.specs.Prelude.{ℕ, ◌/◌, ◌^◌, Bool, not, ◌&&◌, ◌||◌, List, [], ◌∷◌, ◌++◌, eqb, length, get_or}
+use Rattle.std.specs.Prelude.{ℕ, ◌/◌, ◌^◌, Bool, not, ◌&&◌, ◌||◌, List, [], ◌∷◌, ◌++◌, eqb, length, get_or, Result, Ok, Err}
 use Rattle.bits.specs.Bits.{odd}
 use Rattle.rows.specs.Row.{Row, pick}
 use Rattle.rows.specs.Walk.{and_then, refused, walk, slots_of}
 use Rattle.rows.specs.Margin.{words_of, margin_of}
 use Rattle.rows.specs.declared.margin.Margin.{Margin}
 use Rattle.rows.specs.Table.Contract.{head, contract42, contract50}
-use Rattle.records.specs.Answer.{Written, Told, told_value, told_refusal, refusal, denied, written, read_record, write_record, from}
+use Rattle.records.specs.Answer.{Answer, Written, Told, told_value, told_refusal, refusal, denied, written, read_record, write_record, from}
 use Rattle.contract.specs.declared.Data42.{Data42}
 use Rattle.contract.specs.declared.Data50.{Data50}
 use Rattle.contract.specs.declared.Data.{Data}
 use Rattle.contract.specs.declared.Data.TheVariants.{Nothing, Carnet, Urban}
 use Rattle.contract.specs.declared.Contract.{Contract}
-use Rattle.std.specs.Prelude.{Ok, Err}
 
 -- The numbers of the head behind its bitmap.
 abbrev pub behind : Contract → List ℕ
@@ -212,6 +211,10 @@ abbrev pub data_told : Data → List ℕ
 data_told Nothing = 0 ∷ []
 data_told (Carnet d) = 66 ∷ numbers42 d
 data_told (Urban d) = 80 ∷ numbers50 d
+
+-- The answer to a reading.
+abbrev pub ContractRead : Type 0
+ContractRead = Result Contract Answer
 
 -- The cases of the answer to a reading, each by its number, its place, its field and its values.
 abbrev pub contract_told : ContractRead → Told

@@ -3,21 +3,21 @@
 
 ghost use Rattle.std.specs.Prelude.{◌≡◌, Bool, List, [], ◌∷◌, ◌++◌, ℕ, length, take, drop};
 ghost use Rattle.rows.specs.Inner.Step.{Ready, Drafted};
+ghost use Rattle.rows.specs.Inner.Standing.{stand};
 ghost use Rattle.rows.specs.Inner.Line.{start, Taken, Given};
 ghost use Rattle.rows.specs.Table.Contract.{head, data42, data50};
 ghost use Rattle.contract.specs.Contract.{behind, head_numbers, numbers42, numbers50, data42_of, data50_of, head_of, data_of, contract_of, follow, known, with_rest, agrees, carnet, urban, contract_told, contract_read, contract_written};
-ghost use Rattle.bits.specs.Bits.{cut, cleared};
-ghost use Rattle.rows.specs.Margin.{words_of, margin_of};
-ghost use Rattle.records.specs.Answer.{from};
-ghost use Rattle.contract.specs.Inner.Steps.{disagreed, PutOf};
-ghost use Rattle.records.specs.Inner.Met.{met};
+ghost use Rattle.rows.specs.Margin.{words_of};
+ghost use Rattle.records.specs.Answer.{answer_of, heard, from};
+ghost use Rattle.contract.specs.Inner.Steps.{disagreed, TakeOf, PutOf};
 
-use records::{BITS, BYTES, LAST_MINUTE, Refusal};
+use records::{BITS, BYTES, LAST_MINUTE, Refusal, Why};
 use rows::margin::Margin;
+use rows::take::Part;
 use rows::{Cursor, When, margin, put, take};
 
 // The data of type 42h.
-#[derive(Clone, Copy)]
+#[derive(Clone, Copy, Debug, PartialEq, Eq)]
 pub struct Data42 {
     pub pay_method: u32,
     pub price: u32,
@@ -31,7 +31,7 @@ pub struct Data42 {
 }
 
 // The data of type 50h.
-#[derive(Clone, Copy)]
+#[derive(Clone, Copy, Debug, PartialEq, Eq)]
 pub struct Data50 {
     pub end_date: u32,
     pub grey_list: u32,
@@ -72,7 +72,7 @@ pub struct Data50 {
 }
 
 // The data behind the head.
-#[derive(Clone, Copy)]
+#[derive(Clone, Copy, Debug, PartialEq, Eq)]
 pub enum Data {
     Nothing,
     Carnet(Data42),
@@ -92,12 +92,6 @@ pub struct Contract {
     pub status: u32,
     pub data: Data,
     pub margin: Margin,
-}
-
-#[derive(Clone, Copy)]
-pub enum ContractRead {
-    Read(Contract),
-    Refused(Refusal),
 }
 
 impl Contract {
@@ -416,26 +410,7 @@ impl Data50 {
     }
 }
 
-// The head, and the cursor behind its last field.
-#[derive(Clone, Copy)]
-struct Fields {
-    value: Contract,
-    last: Cursor,
-}
-
-#[derive(Clone, Copy)]
-struct CarnetFields {
-    data: Data42,
-    last: Cursor,
-}
-
-#[derive(Clone, Copy)]
-struct UrbanFields {
-    data: Data50,
-    last: Cursor,
-}
-
-// Whether there is such a type.
+// Whether there is such a type. A type is a number, no enum: document 01 has refusal 3 for every other number.
 pub fn known(kind: u32) -> bool
     ensures { result ≡ known kind }
 {
@@ -443,48 +418,26 @@ pub fn known(kind: u32) -> bool
 }
 
 // The contract of a type in a lent record.
-pub fn read(bytes: &[u8], kind: u32) -> ContractRead
-    ensures { contract_told result ≡ contract_told (contract_read kind bytes.now) }
+pub fn read(bytes: &[u8], kind: u32) -> Result<Contract, Refusal>
+    ensures { contract_told (heard result) ≡ contract_told (contract_read kind bytes.now) }
 {
     if bytes.len() != BYTES {
-        return ContractRead::Refused(Refusal::WRONG_LENGTH);
+        return Err(Refusal::WRONG_LENGTH);
     }
     if !known(kind) {
-        return ContractRead::Refused(Refusal::UNKNOWN_TYPE);
+        return Err(Refusal::UNKNOWN_TYPE);
     }
     let mut words = [0u64; 8];
     bits::words(&bytes[..], &mut words);
-    let fields = take_head(&words);
-    let head = fields.value;
-    let last = fields.last;
-    if !follow(head.bitmap) {
-        if last.why != 0 {
-            return refused(last);
-        }
-        return whole(head, Data::Nothing, &words, last.at);
-    }
-    if kind == Contract::CARNET {
-        let carnet = take_carnet(&words, last, head.bitmap);
-        let last = carnet.last;
-        if last.why != 0 {
-            return refused(last);
-        }
-        let data = carnet.data;
-        return whole(head, Data::Carnet(data), &words, last.at);
-    }
-    let urban = take_urban(&words, last, head.bitmap);
-    let last = urban.last;
-    if last.why != 0 {
-        return refused(last);
-    }
-    let data = urban.data;
-    whole(head, Data::Urban(data), &words, last.at)
-}
-
-fn refused(last: Cursor) -> ContractRead
-    ensures { result ≡ ContractRead.Refused (met last) }
-{
-    ContractRead::Refused(Refusal::met(last))
+    let front = take_head(&words);
+    let rest = take_data(&words, kind, &front);
+    let last = rest.last;
+    Refusal::met(last)?;
+    Ok(Contract {
+        data: rest.value,
+        margin: margin::take(&words, last.at),
+        ..front.value
+    })
 }
 
 // Whether the data follow the head: bit [6] of its bitmap.
@@ -494,30 +447,9 @@ fn follow(bitmap: u32) -> bool
     (bitmap >> 6) % 2 == 1
 }
 
-// A contract with its data, and with what stands from bit at on as its margin.
-fn whole(head: Contract, data: Data, words: &[u64], at: u32) -> ContractRead
+fn take_head(words: &[u64]) -> Part<Contract>
     requires { length words.now ≡ 8 }
-    ensures { (bs : List Bool) → words.now ≡ cut 32 64 8 bs
-        → result ≡ ContractRead.Read (with_rest head «data» (margin_of (cut 64 64 4 (cleared at bs)))) }
-{
-    ContractRead::Read(Contract {
-        bitmap: head.bitmap,
-        provider: head.provider,
-        tariff: head.tariff,
-        serial: head.serial,
-        class: head.class,
-        validity_bitmap: head.validity_bitmap,
-        start_date: head.start_date,
-        end_date: head.end_date,
-        status: head.status,
-        data,
-        margin: margin::take(words, at),
-    })
-}
-
-fn take_head(words: &[u64]) -> Fields
-    requires { length words.now ≡ 8 }
-    ensures { Taken words.now 232 head [] start (head_numbers result.value) result.last }
+    ensures { Taken words.now 232 head [] start (head_numbers result.value) (stand result.last) }
 {
     let bitmap = take::number(words, BITS, Cursor::START, When::Always, 7);
     let provider = take::number(words, BITS, bitmap, When::Bit(bitmap.number, 0), 8);
@@ -528,7 +460,7 @@ fn take_head(words: &[u64]) -> Fields
     let start_date = take::number(words, BITS, validity, When::Bit(validity.number, 0), 14);
     let end_date = take::number(words, BITS, start_date, When::Bit(validity.number, 1), 14);
     let status = take::number(words, BITS, end_date, When::Bit(bitmap.number, 5), 8);
-    Fields {
+    Part {
         value: Contract {
             bitmap: bitmap.number,
             provider: provider.number,
@@ -546,9 +478,36 @@ fn take_head(words: &[u64]) -> Fields
     }
 }
 
-fn take_carnet(words: &[u64], c: Cursor, bitmap: u32) -> CarnetFields
-    requires { Ready words.now 232 c }
-    ensures { (h : Contract) → Taken words.now 232 data42 (bitmap ∷ behind h) c (bitmap ∷ behind h ++ numbers42 result.«data») result.last }
+// The data of a type behind a head: none where they do not follow.
+fn take_data(words: &[u64], kind: u32, front: &Part<Contract>) -> Part<Data>
+    requires { Taken words.now 232 head [] start (head_numbers front.now.value) (stand front.now.last) }
+    ensures { TakeOf words.now kind front.now.value result.value (stand result.last) }
+{
+    let bitmap = front.value.bitmap;
+    let last = front.last;
+    if !follow(bitmap) {
+        return Part {
+            value: Data::Nothing,
+            last,
+        };
+    }
+    if kind == Contract::CARNET {
+        let carnet = take_carnet(words, last, bitmap);
+        return Part {
+            value: Data::Carnet(carnet.value),
+            last: carnet.last,
+        };
+    }
+    let urban = take_urban(words, last, bitmap);
+    Part {
+        value: Data::Urban(urban.value),
+        last: urban.last,
+    }
+}
+
+fn take_carnet(words: &[u64], c: Cursor, bitmap: u32) -> Part<Data42>
+    requires { Ready words.now 232 (stand c) }
+    ensures { (h : Contract) → Taken words.now 232 data42 (bitmap ∷ behind h) (stand c) (bitmap ∷ behind h ++ numbers42 result.value) (stand result.last) }
 {
     let follow = When::Bit(bitmap, 6);
     let pay_method = take::number(words, BITS, c, follow, 11);
@@ -560,8 +519,8 @@ fn take_carnet(words: &[u64], c: Cursor, bitmap: u32) -> CarnetFields
     let receipt = take::number(words, BITS, device, follow, 1);
     let passengers = take::number(words, BITS, receipt, follow, 8);
     let inhibition_end = take::number(words, BITS, passengers, follow, 14);
-    CarnetFields {
-        data: Data42 {
+    Part {
+        value: Data42 {
             pay_method: pay_method.number,
             price: price.number,
             sale_date: sale_date.number,
@@ -576,9 +535,9 @@ fn take_carnet(words: &[u64], c: Cursor, bitmap: u32) -> CarnetFields
     }
 }
 
-fn take_urban(words: &[u64], c: Cursor, bitmap: u32) -> UrbanFields
-    requires { Ready words.now 232 c }
-    ensures { (h : Contract) → Taken words.now 232 data50 (bitmap ∷ behind h) c (bitmap ∷ behind h ++ numbers50 result.«data») result.last }
+fn take_urban(words: &[u64], c: Cursor, bitmap: u32) -> Part<Data50>
+    requires { Ready words.now 232 (stand c) }
+    ensures { (h : Contract) → Taken words.now 232 data50 (bitmap ∷ behind h) (stand c) (bitmap ∷ behind h ++ numbers50 result.value) (stand result.last) }
 {
     let terms = take_terms(words, c, bitmap);
     let purse = take_purse(words, terms);
@@ -588,9 +547,9 @@ fn take_urban(words: &[u64], c: Cursor, bitmap: u32) -> UrbanFields
 }
 
 // The numbers that are always there, and groups [0] and [1].
-fn take_terms(words: &[u64], c: Cursor, bitmap: u32) -> UrbanFields
-    requires { Ready words.now 232 c }
-    ensures { (h : Contract) → Taken words.now 232 (take 9 data50) (bitmap ∷ behind h) c (bitmap ∷ behind h ++ take 9 (numbers50 result.«data»)) result.last }
+fn take_terms(words: &[u64], c: Cursor, bitmap: u32) -> Part<Data50>
+    requires { Ready words.now 232 (stand c) }
+    ensures { (h : Contract) → Taken words.now 232 (take 9 data50) (bitmap ∷ behind h) (stand c) (bitmap ∷ behind h ++ take 9 (numbers50 result.value)) (stand result.last) }
 {
     let follow = When::Bit(bitmap, 6);
     let end_date = take::number(words, BITS, c, follow, 14);
@@ -612,16 +571,19 @@ fn take_terms(words: &[u64], c: Cursor, bitmap: u32) -> UrbanFields
     data.origin = origin.number;
     data.destination = destination.number;
     data.via = via.number;
-    UrbanFields { data, last: via }
+    Part {
+        value: data,
+        last: via,
+    }
 }
 
 // Groups [2] to [5].
-fn take_purse(words: &[u64], terms: UrbanFields) -> UrbanFields
-    requires { Ready words.now 232 terms.last }
-    ensures { (n : ℕ) (h : Contract) → Taken words.now 232 (take 9 (drop 9 data50)) (n ∷ behind h ++ take 9 (numbers50 terms.«data»)) terms.last (n ∷ behind h ++ take 18 (numbers50 result.«data»)) result.last }
+fn take_purse(words: &[u64], terms: Part<Data50>) -> Part<Data50>
+    requires { Ready words.now 232 (stand terms.last) }
+    ensures { (n : ℕ) (h : Contract) → Taken words.now 232 (take 9 (drop 9 data50)) (n ∷ behind h ++ take 9 (numbers50 terms.value)) (stand terms.last) (n ∷ behind h ++ take 18 (numbers50 result.value)) (stand result.last) }
 {
     let c = terms.last;
-    let mut data = terms.data;
+    let mut data = terms.value;
     let groups = data.bitmap;
     let token1 = take::number(words, BITS, c, When::Bit(groups, 2), 16);
     let token2 = take::number(words, BITS, token1, When::Bit(groups, 2), 16);
@@ -641,19 +603,19 @@ fn take_purse(words: &[u64], terms: UrbanFields) -> UrbanFields
     data.purse = purse.number;
     data.debit = debit.number;
     data.passengers = passengers.number;
-    UrbanFields {
-        data,
+    Part {
+        value: data,
         last: passengers,
     }
 }
 
 // Groups [6] to [8].
-fn take_zones(words: &[u64], purse: UrbanFields) -> UrbanFields
-    requires { Ready words.now 232 purse.last }
-    ensures { (n : ℕ) (h : Contract) → Taken words.now 232 (take 7 (drop 18 data50)) (n ∷ behind h ++ take 18 (numbers50 purse.«data»)) purse.last (n ∷ behind h ++ take 25 (numbers50 result.«data»)) result.last }
+fn take_zones(words: &[u64], purse: Part<Data50>) -> Part<Data50>
+    requires { Ready words.now 232 (stand purse.last) }
+    ensures { (n : ℕ) (h : Contract) → Taken words.now 232 (take 7 (drop 18 data50)) (n ∷ behind h ++ take 18 (numbers50 purse.value)) (stand purse.last) (n ∷ behind h ++ take 25 (numbers50 result.value)) (stand result.last) }
 {
     let c = purse.last;
-    let mut data = purse.data;
+    let mut data = purse.value;
     let groups = data.bitmap;
     let period_end = take::number(words, BITS, c, When::Bit(groups, 6), 14);
     let period_balance = take::number(words, BITS, period_end, When::Bit(groups, 6), 6);
@@ -669,19 +631,19 @@ fn take_zones(words: &[u64], purse: UrbanFields) -> UrbanFields
     data.zone3 = zone3.number;
     data.sections = sections.number;
     data.sections_left = sections_left.number;
-    UrbanFields {
-        data,
+    Part {
+        value: data,
         last: sections_left,
     }
 }
 
 // Groups [9] and [10].
-fn take_stops(words: &[u64], zones: UrbanFields) -> UrbanFields
-    requires { Ready words.now 232 zones.last }
-    ensures { (n : ℕ) (h : Contract) → Taken words.now 232 (take 6 (drop 25 data50)) (n ∷ behind h ++ take 25 (numbers50 zones.«data»)) zones.last (n ∷ behind h ++ take 31 (numbers50 result.«data»)) result.last }
+fn take_stops(words: &[u64], zones: Part<Data50>) -> Part<Data50>
+    requires { Ready words.now 232 (stand zones.last) }
+    ensures { (n : ℕ) (h : Contract) → Taken words.now 232 (take 6 (drop 25 data50)) (n ∷ behind h ++ take 25 (numbers50 zones.value)) (stand zones.last) (n ∷ behind h ++ take 31 (numbers50 result.value)) (stand result.last) }
 {
     let c = zones.last;
-    let mut data = zones.data;
+    let mut data = zones.value;
     let groups = data.bitmap;
     let stop1 = take::number(words, BITS, c, When::Bit(groups, 9), 14);
     let stop2 = take::number(words, BITS, stop1, When::Bit(groups, 9), 14);
@@ -695,16 +657,19 @@ fn take_stops(words: &[u64], zones: UrbanFields) -> UrbanFields
     data.stop4 = stop4.number;
     data.line1 = line1.number;
     data.line2 = line2.number;
-    UrbanFields { data, last: line2 }
+    Part {
+        value: data,
+        last: line2,
+    }
 }
 
 // Groups [11] to [15].
-fn take_limits(words: &[u64], stops: UrbanFields) -> UrbanFields
-    requires { Ready words.now 232 stops.last }
-    ensures { (n : ℕ) (h : Contract) → Taken words.now 232 (drop 31 data50) (n ∷ behind h ++ take 31 (numbers50 stops.«data»)) stops.last (n ∷ behind h ++ numbers50 result.«data») result.last }
+fn take_limits(words: &[u64], stops: Part<Data50>) -> Part<Data50>
+    requires { Ready words.now 232 (stand stops.last) }
+    ensures { (n : ℕ) (h : Contract) → Taken words.now 232 (drop 31 data50) (n ∷ behind h ++ take 31 (numbers50 stops.value)) (stand stops.last) (n ∷ behind h ++ numbers50 result.value) (stand result.last) }
 {
     let c = stops.last;
-    let mut data = stops.data;
+    let mut data = stops.value;
     let groups = data.bitmap;
     let weekly = take::number(words, BITS, c, When::Bit(groups, 11), 14);
     let start_date = take::number(words, BITS, weekly, When::Bit(groups, 12), 14);
@@ -723,27 +688,25 @@ fn take_limits(words: &[u64], stops: UrbanFields) -> UrbanFields
     data.end_minute = end_minute.number;
     data.token = token.number;
     data.intermodal = intermodal.number;
-    UrbanFields {
-        data,
+    Part {
+        value: data,
         last: intermodal,
     }
 }
 
 // Writes a contract under a type to a lent record, all of it; refused, the record is as it was.
-pub fn write(bytes: &mut [u8], kind: u32, c: Contract) -> Refusal
-    ensures { record { answer = result; bytes = bytes.new } ≡ contract_written kind c bytes.old }
+pub fn write(bytes: &mut [u8], kind: u32, c: Contract) -> Result<(), Refusal>
+    ensures { record { answer = answer_of result; bytes = bytes.new } ≡ contract_written kind c bytes.old }
 {
     if bytes.len() != BYTES {
-        return Refusal::WRONG_LENGTH;
+        return Err(Refusal::WRONG_LENGTH);
     }
     if !known(kind) {
-        return Refusal::UNKNOWN_TYPE;
+        return Err(Refusal::UNKNOWN_TYPE);
     }
     let mut draft = [0u64; 9];
     let last = put_fields(&mut draft, kind, c);
-    if last.why != 0 {
-        return Refusal::met(last);
-    }
+    Refusal::met(last)?;
     let end = margin::put(&mut draft, BITS, last, c.margin);
     put::end(&draft, end, bytes);
     Refusal::met(end)
@@ -751,7 +714,7 @@ pub fn write(bytes: &mut [u8], kind: u32, c: Contract) -> Refusal
 
 fn put_fields(draft: &mut [u64], kind: u32, c: Contract) -> Cursor
     requires { length draft.old ≡ 9 }
-    ensures { PutOf kind c draft.old draft.new result }
+    ensures { PutOf kind c draft.old draft.new (stand result) }
 {
     let head = put_head(draft, c);
     if !agrees(kind, c) {
@@ -781,26 +744,25 @@ fn agrees(kind: u32, c: Contract) -> bool
 
 // Data that do not agree are 7 at the first bit after the head, as a whole.
 fn disagreed(head: Cursor) -> Cursor
-    ensures { result ≡ disagreed head }
+    ensures { stand result ≡ disagreed (stand head) }
 {
-    if head.why == 0 {
-        return Cursor {
-            at: head.at,
-            why: 7,
-            field: Contract::COUNT_AT_DATA,
-            number: 0,
-        };
+    if head.is_refused() {
+        return head;
     }
-    head
+    Cursor {
+        at: head.at,
+        why: Some(Why::NoFit),
+        field: Contract::COUNT_AT_DATA,
+        number: 0,
+    }
 }
 
 fn carnet(data: Data) -> Data42
     ensures { result ≡ carnet «data» }
 {
     match data {
-        Data::Nothing => Data42::NONE,
         Data::Carnet(d) => d,
-        Data::Urban(_) => Data42::NONE,
+        _ => Data42::NONE,
     }
 }
 
@@ -808,15 +770,14 @@ fn urban(data: Data) -> Data50
     ensures { result ≡ urban «data» }
 {
     match data {
-        Data::Nothing => Data50::NONE,
-        Data::Carnet(_) => Data50::NONE,
         Data::Urban(d) => d,
+        _ => Data50::NONE,
     }
 }
 
 fn put_head(draft: &mut [u64], c: Contract) -> Cursor
     requires { length draft.old ≡ 9 }
-    ensures { (more : List ℕ) → Given 232 (head_numbers c ++ more) head [] draft.old start (head_numbers c) draft.new result }
+    ensures { (more : List ℕ) → Given 232 (head_numbers c ++ more) head [] draft.old start (head_numbers c) draft.new (stand result) }
 {
     let validity = c.validity_bitmap;
     let at = put::number(draft, BITS, Cursor::START, When::Always, 7, c.bitmap);
@@ -831,8 +792,8 @@ fn put_head(draft: &mut [u64], c: Contract) -> Cursor
 }
 
 fn put_carnet(draft: &mut [u64], at: Cursor, bitmap: u32, d: Data42) -> Cursor
-    requires { Drafted draft.old 232 at }
-    ensures { (h : Contract) → Given 232 (bitmap ∷ behind h ++ numbers42 d) data42 (bitmap ∷ behind h) draft.old at (bitmap ∷ behind h ++ numbers42 d) draft.new result }
+    requires { Drafted draft.old 232 (stand at) }
+    ensures { (h : Contract) → Given 232 (bitmap ∷ behind h ++ numbers42 d) data42 (bitmap ∷ behind h) draft.old (stand at) (bitmap ∷ behind h ++ numbers42 d) draft.new (stand result) }
 {
     let follow = When::Bit(bitmap, 6);
     let at = put::number(draft, BITS, at, follow, 11, d.pay_method);
@@ -847,8 +808,8 @@ fn put_carnet(draft: &mut [u64], at: Cursor, bitmap: u32, d: Data42) -> Cursor
 }
 
 fn put_urban(draft: &mut [u64], at: Cursor, bitmap: u32, d: Data50) -> Cursor
-    requires { Drafted draft.old 232 at }
-    ensures { (h : Contract) → Given 232 (bitmap ∷ behind h ++ numbers50 d) data50 (bitmap ∷ behind h) draft.old at (bitmap ∷ behind h ++ numbers50 d) draft.new result }
+    requires { Drafted draft.old 232 (stand at) }
+    ensures { (h : Contract) → Given 232 (bitmap ∷ behind h ++ numbers50 d) data50 (bitmap ∷ behind h) draft.old (stand at) (bitmap ∷ behind h ++ numbers50 d) draft.new (stand result) }
 {
     let terms = put_terms(draft, at, bitmap, d);
     let purse = put_purse(draft, terms, d);
@@ -859,8 +820,8 @@ fn put_urban(draft: &mut [u64], at: Cursor, bitmap: u32, d: Data50) -> Cursor
 
 // The numbers that are always there, and groups [0] and [1].
 fn put_terms(draft: &mut [u64], at: Cursor, bitmap: u32, d: Data50) -> Cursor
-    requires { Drafted draft.old 232 at }
-    ensures { (h : Contract) → Given 232 (bitmap ∷ behind h ++ numbers50 d) (take 9 data50) (bitmap ∷ behind h) draft.old at (bitmap ∷ behind h ++ take 9 (numbers50 d)) draft.new result }
+    requires { Drafted draft.old 232 (stand at) }
+    ensures { (h : Contract) → Given 232 (bitmap ∷ behind h ++ numbers50 d) (take 9 data50) (bitmap ∷ behind h) draft.old (stand at) (bitmap ∷ behind h ++ take 9 (numbers50 d)) draft.new (stand result) }
 {
     let follow = When::Bit(bitmap, 6);
     let groups = d.bitmap;
@@ -877,8 +838,8 @@ fn put_terms(draft: &mut [u64], at: Cursor, bitmap: u32, d: Data50) -> Cursor
 
 // Groups [2] to [5].
 fn put_purse(draft: &mut [u64], at: Cursor, d: Data50) -> Cursor
-    requires { Drafted draft.old 232 at }
-    ensures { (n : ℕ) (h : Contract) → Given 232 (n ∷ behind h ++ numbers50 d) (take 9 (drop 9 data50)) (n ∷ behind h ++ take 9 (numbers50 d)) draft.old at (n ∷ behind h ++ take 18 (numbers50 d)) draft.new result }
+    requires { Drafted draft.old 232 (stand at) }
+    ensures { (n : ℕ) (h : Contract) → Given 232 (n ∷ behind h ++ numbers50 d) (take 9 (drop 9 data50)) (n ∷ behind h ++ take 9 (numbers50 d)) draft.old (stand at) (n ∷ behind h ++ take 18 (numbers50 d)) draft.new (stand result) }
 {
     let groups = d.bitmap;
     let at = put::number(draft, BITS, at, When::Bit(groups, 2), 16, d.token1);
@@ -894,8 +855,8 @@ fn put_purse(draft: &mut [u64], at: Cursor, d: Data50) -> Cursor
 
 // Groups [6] to [8].
 fn put_zones(draft: &mut [u64], at: Cursor, d: Data50) -> Cursor
-    requires { Drafted draft.old 232 at }
-    ensures { (n : ℕ) (h : Contract) → Given 232 (n ∷ behind h ++ numbers50 d) (take 7 (drop 18 data50)) (n ∷ behind h ++ take 18 (numbers50 d)) draft.old at (n ∷ behind h ++ take 25 (numbers50 d)) draft.new result }
+    requires { Drafted draft.old 232 (stand at) }
+    ensures { (n : ℕ) (h : Contract) → Given 232 (n ∷ behind h ++ numbers50 d) (take 7 (drop 18 data50)) (n ∷ behind h ++ take 18 (numbers50 d)) draft.old (stand at) (n ∷ behind h ++ take 25 (numbers50 d)) draft.new (stand result) }
 {
     let groups = d.bitmap;
     let at = put::number(draft, BITS, at, When::Bit(groups, 6), 14, d.period_end);
@@ -909,8 +870,8 @@ fn put_zones(draft: &mut [u64], at: Cursor, d: Data50) -> Cursor
 
 // Groups [9] and [10].
 fn put_stops(draft: &mut [u64], at: Cursor, d: Data50) -> Cursor
-    requires { Drafted draft.old 232 at }
-    ensures { (n : ℕ) (h : Contract) → Given 232 (n ∷ behind h ++ numbers50 d) (take 6 (drop 25 data50)) (n ∷ behind h ++ take 25 (numbers50 d)) draft.old at (n ∷ behind h ++ take 31 (numbers50 d)) draft.new result }
+    requires { Drafted draft.old 232 (stand at) }
+    ensures { (n : ℕ) (h : Contract) → Given 232 (n ∷ behind h ++ numbers50 d) (take 6 (drop 25 data50)) (n ∷ behind h ++ take 25 (numbers50 d)) draft.old (stand at) (n ∷ behind h ++ take 31 (numbers50 d)) draft.new (stand result) }
 {
     let groups = d.bitmap;
     let at = put::number(draft, BITS, at, When::Bit(groups, 9), 14, d.stop1);
@@ -923,8 +884,8 @@ fn put_stops(draft: &mut [u64], at: Cursor, d: Data50) -> Cursor
 
 // Groups [11] to [15].
 fn put_limits(draft: &mut [u64], at: Cursor, d: Data50) -> Cursor
-    requires { Drafted draft.old 232 at }
-    ensures { (n : ℕ) (h : Contract) → Given 232 (n ∷ behind h ++ numbers50 d) (drop 31 data50) (n ∷ behind h ++ take 31 (numbers50 d)) draft.old at (n ∷ behind h ++ numbers50 d) draft.new result }
+    requires { Drafted draft.old 232 (stand at) }
+    ensures { (n : ℕ) (h : Contract) → Given 232 (n ∷ behind h ++ numbers50 d) (drop 31 data50) (n ∷ behind h ++ take 31 (numbers50 d)) draft.old (stand at) (n ∷ behind h ++ numbers50 d) draft.new (stand result) }
 {
     let groups = d.bitmap;
     let at = put::number(draft, BITS, at, When::Bit(groups, 11), 14, d.weekly);

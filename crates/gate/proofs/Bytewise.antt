@@ -1,20 +1,18 @@
 -- What the operations on bytes do to their bits.
-use Prim.Native.Nat.{ℕ, zero, suc, ◌+◌, ◌*◌, ◌-◌, ◌/◌, ◌%◌, ◌^◌, ◌<◌, ◌≤◌}
+use Prim.Native.Nat.{ℕ, zero, suc, ◌-◌, ◌/◌, ◌%◌, ◌^◌, ◌<◌, ◌≤◌}
 use mathlib.Core.List.{List, [], ◌∷◌, ◌++◌}
 use mathlib.Core.Bool.{Bool, true, false}
 use mathlib.Core.Path.{◌≡◌, refl, sym, ap, ◌∙◌}
 use native.Mathlib.Omega.{arith}
-use native.Mathlib.Nat.{add-zero}
-use native.Mathlib.Numerals.{add-one}
 use borrow.Author.Tests.{eq-eqb, ne_eqb, eqb-true, eqb-false}
 use lib.Bits.{bit_or, or_step, or_add_and, and_le_l}
-use lib.ListN.{length, get_or, take, drop, set}
-use lib.Seq.{take-suc, take-suc-set, drop-set-lt, take_all, get_or-drop, drop-drop}
+use lib.ListN.{length, length-append, get_or}
+use lib.Seq.{ext_get_or, take_at, drop_at}
 use Rattle.bits.specs.Bits.{odd, bits_of, bits_on, spread, cut, join}
 use Rattle.bits.proofs.Cutting.{cut-spread}
 use Rattle.bits.proofs.Spelling.{length-bits_of}
 use Rattle.rows.proofs.Boxes.{join-append}
-use Rattle.gate.specs.Writes.{only, applied, writes_of}
+use Rattle.gate.specs.Writes.{only, writes_of}
 
 even : (n : ℕ) → odd n ≡ false → n % 2 ≡ 0
 even n e = let not_one : n % 2 ≡ 1 → ⊥ = eqb-false (n % 2) 1 e in omega arith
@@ -37,11 +35,11 @@ or_on : (w a b : ℕ) (xs ys : List Bool) → bits_on w (bit_or a b) (join xs ys
 or_on zero a b xs ys = refl
 or_on (suc w) a b xs ys = rw (or_half a b, or_odd a b xs ys) (or_on w (a / 2) (b / 2) (odd a ∷ xs) (odd b ∷ ys))
 
-pub bits_or : (w a b : ℕ) → bits_of w (bit_or a b) ≡ join (bits_of w a) (bits_of w b)
+bits_or : (w a b : ℕ) → bits_of w (bit_or a b) ≡ join (bits_of w a) (bits_of w b)
 bits_or w a b = or_on w a b [] []
 
 -- The bits that are only in the first of two numbers.
-abbrev pub less : ℕ → ℕ → ℕ
+abbrev less : ℕ → ℕ → ℕ
 less a b = bit_or a b - b
 
 pub or_above : (a b : ℕ) → b ≤ bit_or a b
@@ -65,17 +63,17 @@ only_on : (w a b : ℕ) (xs ys : List Bool) → bits_on w (less a b) (only xs ys
 only_on zero a b xs ys = refl
 only_on (suc w) a b xs ys = rw (less_half a b, less_odd a b xs ys) (only_on w (a / 2) (b / 2) (odd a ∷ xs) (odd b ∷ ys))
 
-pub bits_only : (w a b : ℕ) → bits_of w (less a b) ≡ only (bits_of w a) (bits_of w b)
+bits_only : (w a b : ℕ) → bits_of w (less a b) ≡ only (bits_of w a) (bits_of w b)
 bits_only w a b = only_on w a b [] []
 
 -- An operation on two bytes, byte by byte.
-abbrev pub zipped : (ℕ → ℕ → ℕ) → List ℕ → List ℕ → List ℕ
+abbrev zipped : (ℕ → ℕ → ℕ) → List ℕ → List ℕ → List ℕ
 zipped f [] ys = []
 zipped f (x ∷ xs) [] = []
 zipped f (x ∷ xs) (y ∷ ys) = f x y ∷ zipped f xs ys
 
 module _ (f : ℕ → ℕ → ℕ) where
-  pub length_zipped : (xs ys : List ℕ) → length xs ≡ length ys → length (zipped f xs ys) ≡ length ys
+  length_zipped : (xs ys : List ℕ) → length xs ≡ length ys → length (zipped f xs ys) ≡ length ys
   length_zipped [] [] e = refl
   length_zipped [] (y ∷ ys) e = absurd (omega arith)
   length_zipped (x ∷ xs) [] e = absurd (omega arith)
@@ -88,26 +86,14 @@ module _ (f : ℕ → ℕ → ℕ) where
   zipped_at (x ∷ xs) (y ∷ ys) zero e h = refl
   zipped_at (x ∷ xs) (y ∷ ys) (suc i) e h = zipped_at xs ys i (omega arith) (omega arith)
 
-  -- One more byte of a loop that fills a list so.
-  pub zipped_more : (xs ys out : List ℕ) (i v : ℕ) → length xs ≡ length ys → length out ≡ length ys → i < length ys
-      → v ≡ f (get_or xs i 0) (get_or ys i 0)
-      → take i out ≡ take i (zipped f xs ys)
-      → take (i + 1) (set out i v) ≡ take (i + 1) (zipped f xs ys)
-  zipped_more xs ys out i v e long h is so =
-      let inside : i < length out = omega arith in
-      let within : i < length (zipped f xs ys) = rw (length_zipped xs ys e) h in
-      rw (add-one i, take-suc-set out i v inside, take-suc (zipped f xs ys) i 0 within, zipped_at xs ys i e h, is, so)
-
-  pub zipped_all : (xs ys out : List ℕ) (i : ℕ) → length xs ≡ length ys → length out ≡ length ys → length ys ≤ i
-      → take i out ≡ take i (zipped f xs ys)
+  zipped_is : (xs ys out : List ℕ) → length xs ≡ length ys → length out ≡ length ys
+      → ((i : ℕ) → i < length out → get_or out i 0 ≡ f (get_or xs i 0) (get_or ys i 0))
       → out ≡ zipped f xs ys
-  zipped_all xs ys out i e long h so =
-      let all : length out ≤ i = omega arith in
-      let other : length (zipped f xs ys) ≤ i = rw (length_zipped xs ys e) h in
-      sym (take_all i out all) ∙ so ∙ take_all i (zipped f xs ys) other
+  zipped_is xs ys out e long each =
+      ext_get_or 0 out (zipped f xs ys) (long ∙ sym (length_zipped xs ys e)) (λ i h. each i h ∙ sym (zipped_at xs ys i e (omega arith)))
 
   -- What the operation does to bits, done to those of all bytes.
-  pub spread_zipped : (g : List Bool → List Bool → List Bool)
+  spread_zipped : (g : List Bool → List Bool → List Bool)
       → g [] [] ≡ []
       → ((xs xt ys yt : List Bool) → length xs ≡ length ys → g (xs ++ xt) (ys ++ yt) ≡ g xs ys ++ g xt yt)
       → (xs ys : List ℕ) → length xs ≡ length ys
@@ -131,42 +117,33 @@ only_append (x ∷ xs) xt [] yt e = absurd (omega arith)
 only_append (x ∷ xs) xt (true ∷ ys) yt e = ap (λ (l : List Bool). false ∷ l) (only_append xs xt ys yt (omega arith))
 only_append (x ∷ xs) xt (false ∷ ys) yt e = ap (λ (l : List Bool). x ∷ l) (only_append xs xt ys yt (omega arith))
 
--- Bytes or-ed are bits joined.
-pub spread_or : (xs ys : List ℕ) → length xs ≡ length ys → spread 8 (zipped bit_or xs ys) ≡ join (spread 8 xs) (spread 8 ys)
-spread_or xs ys e = spread_zipped bit_or join refl join-append xs ys e (λ i h. bits_or 8 (get_or xs i 0) (get_or ys i 0))
+-- Bytes each or-ed are bits joined.
+pub spread_or : (xs ys out : List ℕ) → length xs ≡ length ys → length out ≡ length ys
+    → ((i : ℕ) → i < length out → get_or out i 0 ≡ bit_or (get_or xs i 0) (get_or ys i 0))
+    → spread 8 out ≡ join (spread 8 xs) (spread 8 ys)
+spread_or xs ys out e long each =
+    ap (spread 8) (zipped_is bit_or xs ys out e long each)
+    ∙ spread_zipped bit_or join refl join-append xs ys e (λ i h. bits_or 8 (get_or xs i 0) (get_or ys i 0))
 
--- Bytes or-ed, less the second, are the bits that are only in the first.
-pub spread_only : (xs ys : List ℕ) → length xs ≡ length ys → spread 8 (zipped less xs ys) ≡ only (spread 8 xs) (spread 8 ys)
-spread_only xs ys e = spread_zipped less only refl only_append xs ys e (λ i h. bits_only 8 (get_or xs i 0) (get_or ys i 0))
-
--- A loop that writes where it reads: what lies ahead is as it was.
-pub ahead_at : (xs ys : List ℕ) (i : ℕ) → drop i xs ≡ drop i ys → get_or xs i 0 ≡ get_or ys i 0
-ahead_at xs ys i h =
-    let at : (l : List ℕ) → get_or (drop i l) 0 0 ≡ get_or l i 0 = λ l. get_or-drop i l 0 0 ∙ rw add-zero in
-    sym (at xs) ∙ ap (λ (l : List ℕ). get_or l 0 0) h ∙ at ys
-
-pub ahead_more : (xs ys : List ℕ) (i v : ℕ) → drop i xs ≡ drop i ys → drop (i + 1) (set xs i v) ≡ drop (i + 1) ys
-ahead_more xs ys i v h =
-    let past : i < i + 1 = omega arith in
-    drop-set-lt (i + 1) xs i v past ∙ sym (drop-drop 1 i xs) ∙ ap (λ (l : List ℕ). drop 1 l) h ∙ drop-drop 1 i ys
+-- Bytes each or-ed, less the second, are the bits that are only in the first.
+pub spread_only : (xs ys out : List ℕ) → length xs ≡ length ys → length out ≡ length ys
+    → ((i : ℕ) → i < length out → get_or out i 0 ≡ less (get_or xs i 0) (get_or ys i 0))
+    → spread 8 out ≡ only (spread 8 xs) (spread 8 ys)
+spread_only xs ys out e long each =
+    ap (spread 8) (zipped_is less xs ys out e long each)
+    ∙ spread_zipped less only refl only_append xs ys e (λ i h. bits_only 8 (get_or xs i 0) (get_or ys i 0))
 
 -- Bytes are what is cut from their bits.
 pub back : (xs : List ℕ) (bs : List Bool) → length xs ≡ 29 → ((i : ℕ) → get_or xs i 0 < 2 ^ 8) → spread 8 xs ≡ bs → xs ≡ cut 8 8 29 bs
 back xs bs long small e =
     sym (cut-spread 8 xs small) ∙ ap (λ (n : ℕ). cut 8 8 n (spread 8 xs)) long ∙ ap (λ (l : List Bool). cut 8 8 29 l) e
 
--- One write more of several.
-pub applied_more : (old now : List Bool) (writes : List ℕ) (n k : ℕ) → k < n
-    → applied old (writes_of n writes) ≡ applied now (writes_of (n - k) (drop (29 * k) writes))
-    → applied old (writes_of n writes) ≡ applied (join now (spread 8 (take 29 (drop (29 * k) writes)))) (writes_of (n - (k + 1)) (drop (29 * (k + 1)) writes))
-applied_more old now writes n k h so =
-    let left : n - k ≡ suc (n - (k + 1)) = omega arith in
-    let next : 29 * (k + 1) ≡ 29 * k + 29 = omega arith in
-    (rw left at so) ∙ rw (next, ← (drop-drop 29 (29 * k) writes))
-
--- Write k of n is 29 bytes.
-pub part_size : (k : ℕ) → 29 * k + 29 - 29 * k ≡ 29
-part_size k = omega arith
+-- A write and the others behind it.
+pub writes_more : (write rest : List ℕ) → length write ≡ 29
+    → writes_of (length (write ++ rest) / 29) (write ++ rest) ≡ spread 8 write ∷ writes_of (length rest / 29) rest
+writes_more write rest long =
+    let more : length (write ++ rest) / 29 ≡ suc (length rest / 29) = omega (arith, length-append write rest) in
+    rw (more, take_at write rest 29 long, drop_at write rest 29 long)
 
 pub length_only : (xs ys : List Bool) → length (only xs ys) ≡ length xs
 length_only [] ys = refl

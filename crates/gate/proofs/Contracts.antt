@@ -19,11 +19,9 @@ use Rattle.rows.specs.declared.Rule.{Rule}
 use Rattle.rows.specs.declared.Rule.TheVariants.{Any, Most, Tariff, NoSecond}
 use Rattle.rows.specs.Table.Contract.{head, data42, data50, contract42, contract50}
 use Rattle.rows.proofs.Boxes.{total-append}
-use Rattle.records.specs.Answer.{refusal, refusal_at, answered, valued, read_record}
-use Rattle.contract.specs.Contract.{table_of, contract_of, known, contract_read}
-use Rattle.records.specs.Answer.{Answer}
+use Rattle.records.specs.Answer.{Answer, refusal, refusal_at, answered, valued, read_record}
+use Rattle.contract.specs.Contract.{ContractRead, table_of, contract_of, known, contract_read}
 use Rattle.contract.specs.declared.Contract.{Contract}
-use Rattle.contract.specs.Contract.{ContractRead}
 use Rattle.std.specs.Prelude.{Ok, Err}
 use Rattle.gate.specs.Writes.{applying, called, AllAccepted, writes_in}
 use Rattle.gate.proofs.Laws.{accepted_call}

@@ -1,27 +1,26 @@
 -- Digits of a text one by one, and bytes two digits each.
 use Prim.Native.Nat.{ℕ, zero, suc, ◌+◌, ◌*◌, ◌-◌, ◌≤◌, ◌<◌}
 use mathlib.Core.List.{List, [], ◌∷◌, ◌++◌, append_assoc}
-use mathlib.Core.Bool.{Bool, true, false, true≢false}
+use mathlib.Core.Bool.{Bool, true, false, ◌&&◌, true≢false}
 use mathlib.Core.Path.{◌≡◌, refl, sym, ◌∙◌}
 use native.Mathlib.Omega.{arith}
 use native.Mathlib.Numerals.{add-one}
 use native.Mathlib.Nat.{add-zero}
 use lib.Dec.{ltb}
+use Rattle.std.specs.List.{list_all}
 use lib.ListN.{length, get_or, take, drop, set}
-use lib.Seq.{drop-cons, drop-drop, get_or-drop, take-suc-set}
-use borrow.Author.Tests.{lt-ltb, le-ltb, ltb-true}
+use lib.Seq.{drop-drop, get_or-drop, take-suc-set}
+use borrow.Author.Tests.{ltb-true}
 use Rattle.text.specs.Hex.{choose, worth, all_digits, spelt}
 
-module _ (text : List ℕ) (i d : ℕ) (inside : i < length text) (is : d ≡ worth (get_or text i 0)) where
-  pub digit_more : d ≤ 15 → all_digits (drop i text) ≡ all_digits (drop (i + 1) text)
-  digit_more small =
-      let one : worth (get_or text i 0) < 16 = omega arith in
-      rw (drop-cons text i 0 inside, add-one i, lt-ltb (worth (get_or text i 0)) 16 one)
-
-  pub digit_none : 15 < d → all_digits (drop i text) ≡ false
-  digit_none large =
-      let none : 16 ≤ worth (get_or text i 0) = omega arith in
-      rw (drop-cons text i 0 inside, le-ltb (worth (get_or text i 0)) 16 none)
+-- The same as a test of each.
+pub each_digit : (text : List ℕ) → list_all (λ b. ltb (worth b) 16) text ≡ all_digits text
+each_digit [] = refl
+each_digit (b ∷ bs) = rw (each_digit bs) (go (ltb (worth b) 16))
+  where
+    go : (t : Bool) → t && all_digits bs ≡ choose t (all_digits bs) false
+    go true = refl
+    go false = refl
 
 -- Each of all digits is one.
 pub digit_at : (text : List ℕ) (i : ℕ) → all_digits text ≡ true → i < length text → worth (get_or text i 0) ≤ 15

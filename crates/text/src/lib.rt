@@ -4,7 +4,7 @@
 ghost use Rattle.std.specs.Prelude.{◌≡◌, Bool, true, ℕ, ◌+◌, ◌*◌, ◌≤◌, length};
 ghost use Rattle.text.specs.Hex.{choose, worth, all_digits, spelt, spells};
 
-// What a digit 0-9 A-F is worth, 16 for what is none.
+// What a digit 0-9 A-F is worth; 16, not a None, for what is none, as `worth` has it.
 fn digit(b: u8) -> u8
     ensures { result ≡ worth b }
 {
@@ -18,14 +18,7 @@ fn digit(b: u8) -> u8
 fn all_digits(text: &[u8]) -> bool
     ensures { result ≡ all_digits text.now }
 {
-    let mut i = 0;
-    while i < text.len() {
-        if 15 < digit(text[i]) {
-            return false;
-        }
-        i += 1;
-    }
-    true
+    text.iter().all(|b| digit(*b) < 16)
 }
 
 // Fills the lent bytes with those that a text spells. A text of another length, or with another letter, changes nothing.
@@ -50,12 +43,10 @@ fn fill(text: &[u8], out: &mut [u8])
     requires { (length text.now ≡ 2 * length out.old) × (all_digits text.now ≡ true) }
     ensures { out.new ≡ spelt (length out.old) text.now }
 {
-    let mut i = 0;
-    while i < out.len() {
+    for (i, byte) in out.iter_mut().enumerate() {
         let high = digit(text[2 * i]);
         let low = digit(text[2 * i + 1]);
-        out[i] = pair(high, low);
-        i += 1;
+        *byte = pair(high, low);
     }
 }
 

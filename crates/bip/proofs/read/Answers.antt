@@ -15,7 +15,7 @@ returns c =
     let bytes = c.args.bytes.now in
     let long = c.if-bytes-ne-BYTES.false in
     let cuts = c.words.ensures in
-    let whole = c.take_fields-value.ensures in
+    let whole = c.take_fields.ensures in
     ap bip_told
     (ap Ok whole.value
     ∙ record_read (λ vals margin. Ok (bip_of vals)) Err bip bytes _ whole.all whole.last (omega (arith, bip_rows)) long cuts whole.taken

@@ -1,15 +1,11 @@
-use Prim.Native.Nat.{◌≤◌, ◌-◌, ◌*◌}
-use mathlib.Core.Path.{◌≡◌}
-use lib.ListN.{length, drop}
+use Rattle.std.proofs.Common.{◌≡◌, ◌/◌, length}
+use Rattle.std.specs.Slice.Iter.{chunks_exact_rest, chunks_exact_size}
 use Rattle.bits.specs.Bits.{spread}
 use Rattle.gate.specs.Writes.{applied, writes_of}
 use Rattle.gate.proofs.raise_all.Given as goal
 
-abbrev pub invariant-loop-k : goal.invariant-loop-k
-invariant-loop-k l =
-    (l.k ≤ l.n)
-    × (length l.«record» ≡ length l.initial.«record»)
-    × (applied (spread 8 l.initial.«record») (writes_of l.n l.writes) ≡ applied (spread 8 l.«record») (writes_of (l.n - l.k) (drop (29 * l.k) l.writes)))
-
-abbrev pub decreases-loop-k : goal.decreases-loop-k
-decreases-loop-k l = l.n - l.k
+abbrev pub invariant-loop-write : goal.invariant-loop-write
+invariant-loop-write l =
+    (chunks_exact_size l.write-iterator ≡ 29)
+    × (length l.«record» ≡ 29)
+    × (applied (spread 8 l.initial.«record») (writes_of (length l.writes / 29) l.writes) ≡ applied (spread 8 l.«record») (writes_of (length (chunks_exact_rest l.write-iterator) / 29) (chunks_exact_rest l.write-iterator)))

@@ -1,4 +1,4 @@
-use Prim.Native.Nat.{◌≤◌, ◌-◌, ◌*◌}
+use Prim.Native.Nat.{◌-◌, ◌*◌}
 use mathlib.Core.Path.{◌≡◌}
 use mathlib.Core.List.{◌++◌}
 use lib.ListN.{length, take, drop}
@@ -7,9 +7,4 @@ use Rattle.text.proofs.fill.Given as goal
 
 abbrev pub invariant-loop-i : goal.invariant-loop-i
 invariant-loop-i l =
-    (l.i ≤ length l.initial.out)
-    × (length l.out ≡ length l.initial.out)
-    × (spelt (length l.initial.out) l.text ≡ take l.i l.out ++ spelt (length l.initial.out - l.i) (drop (2 * l.i) l.text))
-
-abbrev pub decreases-loop-i : goal.decreases-loop-i
-decreases-loop-i l = length l.initial.out - l.i
+    spelt (length l.initial.out) l.text ≡ take l.i l.out ++ spelt (length l.initial.out - l.i) (drop (2 * l.i) l.text)
