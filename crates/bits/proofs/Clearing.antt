@@ -34,6 +34,12 @@ leading_front_one [] b h = absurd (omega arith)
 leading_front_one (true ∷ a) b h = refl
 leading_front_one (false ∷ a) b h = ap suc (leading_front_one a b (omega arith))
 
+pub take-zeros : (k n : ℕ) → k ≤ n → take k (zeros n) ≡ zeros k
+take-zeros k n h = take-replicate k n false h
+
+pub drop-zeros : (k n : ℕ) → drop k (zeros n) ≡ zeros (n - k)
+drop-zeros k n = drop-replicate k n false
+
 -- Bits cut into numbers, and these spread: the bits, and zeros up to the end of the last number.
 pub spread-cut_pad : (w n : ℕ) (bs : List Bool) → length bs ≤ w * n → spread w (cut w w n bs) ≡ bs ++ zeros (w * n - length bs)
 spread-cut_pad w n bs h =
@@ -80,10 +86,10 @@ part_before w at start bs h =
     let k : w ≤ length (zeros (at - start) ++ drop at bs) = rw length-append (omega arith) in
     rw (
       drop-append-le start (zeros at) (drop at bs) (omega arith),
-      drop-replicate start at false,
+      drop-zeros start at,
       front_take w (zeros (at - start) ++ drop at bs) k,
       take-append-le w (zeros (at - start)) (drop at bs) m,
-      take-replicate w (at - start) false (omega arith),
+      take-zeros w (at - start) (omega arith),
     )
     (number-zeros w)
 

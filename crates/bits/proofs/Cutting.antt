@@ -4,11 +4,12 @@ use mathlib.Core.List.{List, [], ◌∷◌, ◌++◌}
 use mathlib.Core.Bool.{Bool, true, false}
 use mathlib.Core.Path.{◌≡◌, refl, sym, ap, ◌∙◌}
 use native.Mathlib.Omega.{arith}
+use native.Mathlib.Numerals.{add-one}
 use native.Mathlib.Nat.{mul-zero, mul-suc, add_comm}
 use lib.Dec.{eqb}
 use lib.Pow.{pow_pos}
-use lib.ListN.{length, get_or, take, drop, length-append, length-drop, take-append-drop}
-use lib.Seq.{drop-drop, drop_at, ext_get_or, length-take-le, take-append-le}
+use lib.ListN.{length, get_or, set, take, drop, length-append, length-drop, length-set, take-append-drop}
+use lib.Seq.{drop-drop, drop_at, ext_get_or, length-take-le, take_all, take-append-le, take-suc, take-suc-set}
 use Rattle.std.specs.Int.{w64, from_be_bytes}
 use Rattle.bits.specs.Bits.{bit, odd, number, zeros, spread, cut, bits_of}
 use Rattle.bits.specs.Inner.Words.{number_at}
@@ -101,6 +102,27 @@ pub cut_pad : (step w n k : ℕ) (bs : List Bool) → cut step w n (bs ++ zeros 
 cut_pad step w n k bs =
     is_cut step w n (cut step w n (bs ++ zeros k)) bs (length_cut step w n (bs ++ zeros k))
     (λ i h. cut_at step w n i (bs ++ zeros k) h ∙ part_pad w (step * i) k bs)
+
+-- For the crates above: a list that is filled from the front with the numbers of a cut, by one more and to the end.
+pub record Filled (step w n : ℕ) (bs : List Bool) (j : ℕ) (xs : List ℕ) : Type 0 where
+  pub long : length xs ≡ n
+  pub same : take j xs ≡ take j (cut step w n bs)
+
+pub filled_more : {step w n : ℕ} {bs : List Bool} {j : ℕ} {xs : List ℕ} {x : ℕ} (k : ℕ) → j + 1 ≡ k → Filled step w n bs j xs → j < n → x ≡ part w (step * j) bs
+    → Filled step w n bs k (set xs j x)
+filled_more {step} {w} {n} {bs} {j} {xs} {x} k next filled h e =
+    let i : j < length xs = omega (arith, filled.long) in
+    let g : j < length (cut step w n bs) = omega (arith, length_cut step w n bs) in
+    record {
+      long = simp length-set filled.long;
+      same = rw (← next, add-one, take-suc-set xs j x i, take-suc (cut step w n bs) j 0 g, cut_at step w n j bs h, filled.same, e);
+    }
+
+pub filled_all : {step w n : ℕ} {bs : List Bool} {j : ℕ} {xs : List ℕ} → Filled step w n bs j xs → n ≤ j → xs ≡ cut step w n bs
+filled_all {step} {w} {n} {bs} {j} {xs} filled h =
+    let g : length (cut step w n bs) ≤ j = omega (arith, length_cut step w n bs) in
+    let k : length xs ≤ j = omega (arith, filled.long) in
+    sym (take_all j xs k) ∙ filled.same ∙ take_all j (cut step w n bs) g
 
 -- The number of the eight bytes from byte i on, high byte first.
 module _ (xs : List ℕ) (fits : (i : ℕ) → get_or xs i 0 < 2 ^ 8) where
