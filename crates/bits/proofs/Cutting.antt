@@ -103,10 +103,13 @@ cut_pad step w n k bs =
     is_cut step w n (cut step w n (bs ++ zeros k)) bs (length_cut step w n (bs ++ zeros k))
     (λ i h. cut_at step w n i (bs ++ zeros k) h ∙ part_pad w (step * i) k bs)
 
--- For the crates above: a list that is filled from the front with the numbers of a cut, by one more and to the end.
+-- A list that is filled from the front with the numbers of a cut: none yet, one more, and all.
 pub record Filled (step w n : ℕ) (bs : List Bool) (j : ℕ) (xs : List ℕ) : Type 0 where
   pub long : length xs ≡ n
   pub same : take j xs ≡ take j (cut step w n bs)
+
+pub filled_none : (step w n : ℕ) (bs : List Bool) (xs : List ℕ) → length xs ≡ n → Filled step w n bs 0 xs
+filled_none step w n bs xs l = record { long = l; same = refl }
 
 pub filled_more : {step w n : ℕ} {bs : List Bool} {j : ℕ} {xs : List ℕ} {x : ℕ} (k : ℕ) → j + 1 ≡ k → Filled step w n bs j xs → j < n → x ≡ part w (step * j) bs
     → Filled step w n bs k (set xs j x)

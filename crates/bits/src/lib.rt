@@ -30,9 +30,14 @@ pub fn words(bytes: &[u8], words: &mut [u64; 8])
     ensures { words.new ≡ cut 32 64 8 (spread 8 bytes.now) }
 {
     let all = &bytes[..];
-    for j in 0..6 {
-        words[j] = eight(all, 4 * j);
-    }
+    // No `for j in 0..6`: tried, and it misses the bar of speed, 840 instructions a list in place of 832.
+    words[0] = eight(all, 0);
+    words[1] = eight(all, 4);
+    words[2] = eight(all, 8);
+    words[3] = eight(all, 12);
+    words[4] = eight(all, 16);
+    words[5] = eight(all, 20);
+    // The last five bytes, and zeros.
     let last = eight(all, 21) << 24;
     words[6] = last;
     words[7] = last << 32;

@@ -23,7 +23,14 @@ word_bytes n (suc (suc (suc (suc i)))) h = absurd (omega arith)
 -- Four bytes more.
 put_more : (f : ℕ → ℕ) (a m : ℕ) (xs ys : List ℕ) → a + 4 ≤ length xs → length ys ≡ 4 → ((k : ℕ) → k < a → get_or xs k 0 ≡ f k)
     → ((i : ℕ) → i < 4 → get_or ys i 0 ≡ f (a + i)) → (k : ℕ) → k < a + 4 → get_or (put_mid a m xs ys) k 0 ≡ f k
-put_more f a m xs ys l e below here k h = elim (cases_lt k a) [ inl b ↦ grind (arith, places, below k b) | inr b ↦ let there : a + (k - a) ≡ k = omega arith in let g : get_or ys (k - a) 0 ≡ f (a + (k - a)) = here (k - a) (omega arith) in grind (arith, places, rw there at g) ]
+put_more f a m xs ys l e below here k h =
+    elim (cases_lt k a) [
+      | inl b ↦ grind (arith, places, below k b)
+      | inr b ↦
+          let there : a + (k - a) ≡ k = omega arith in
+          let put : get_or ys (k - a) 0 ≡ f (a + (k - a)) = here (k - a) (omega arith) in
+          grind (arith, places, rw there at put)
+    ]
 
 pub loop-j-preserved : goal.loop-j-preserved
 loop-j-preserved c out e k h =
