@@ -4,9 +4,10 @@ use mathlib.Core.List.{List, [], ◌∷◌, ◌++◌}
 use mathlib.Core.Bool.{Bool, true, false}
 use mathlib.Core.Path.{◌≡◌, refl, sym, ap, ◌∙◌}
 use native.Mathlib.Omega.{arith}
-use native.Mathlib.Nat.{sub-zero, zero-sub, suc-sub-suc}
+use native.Mathlib.Nat.{sub-zero}
 use lib.ListN.{length, get_or, take, drop, length-append, length-drop, length-replicate}
 use lib.Seq.{drop-drop, drop-append-le, take-append-le, take_at, drop_at}
+use Rattle.std.proofs.lemmas.List.{take-replicate, drop-replicate}
 use Rattle.bits.specs.Bits.{zeros, spread, cleared, cut, leading}
 use Rattle.bits.proofs.Fronts.{front_take, part, part_add, part_low, part_past, part_pad, number-zeros}
 use Rattle.bits.proofs.Cutting.{length-spread, part_spread, is_cut, spread_cut, cut_pad}
@@ -34,14 +35,10 @@ leading_front_one (true ∷ a) b h = refl
 leading_front_one (false ∷ a) b h = ap suc (leading_front_one a b (omega arith))
 
 pub take-zeros : (k n : ℕ) → k ≤ n → take k (zeros n) ≡ zeros k
-take-zeros zero n h = refl
-take-zeros (suc k) zero h = absurd (omega arith)
-take-zeros (suc k) (suc n) h = ap (λ (l : List Bool). false ∷ l) (take-zeros k n (omega arith))
+take-zeros k n h = take-replicate k n false h
 
 pub drop-zeros : (k n : ℕ) → drop k (zeros n) ≡ zeros (n - k)
-drop-zeros zero n = rw sub-zero
-drop-zeros (suc k) zero = rw zero-sub
-drop-zeros (suc k) (suc n) = rw suc-sub-suc (drop-zeros k n)
+drop-zeros k n = drop-replicate k n false
 
 -- Bits cut into numbers, and these spread: the bits, and zeros up to the end of the last number.
 pub spread-cut_pad : (w n : ℕ) (bs : List Bool) → length bs ≤ w * n → spread w (cut w w n bs) ≡ bs ++ zeros (w * n - length bs)

@@ -10,6 +10,7 @@ use lib.Dec.{eqb}
 use lib.Pow.{pow_pos}
 use lib.ListN.{length, get_or, set, take, drop, length-append, length-drop, length-set, take-append-drop}
 use lib.Seq.{drop-drop, drop_at, ext_get_or, length-take-le, take_all, take-append-le, take-suc, take-suc-set}
+use Rattle.std.specs.Int.{w64, from_be_bytes}
 use Rattle.bits.specs.Bits.{bit, odd, number, zeros, spread, cut, bits_of}
 use Rattle.bits.specs.Inner.Words.{number_at}
 use Rattle.bits.proofs.Spelling.{length-bits_of, number-bits_of, bits_of_number}
@@ -126,34 +127,36 @@ filled_all {step} {w} {n} {bs} {j} {xs} filled h =
     let k : length xs ≤ j = omega (arith, filled.long) in
     sym (take_all j xs k) ∙ filled.same ∙ take_all j (cut step w n bs) g
 
--- Numbers of four bytes from byte i on, and of the last byte of a record.
+-- The number of the eight bytes from byte i on, high byte first.
 module _ (xs : List ℕ) (fits : (i : ℕ) → get_or xs i 0 < 2 ^ 8) where
   byte_at : (i at : ℕ) → 8 * i ≡ at → part 8 at (spread 8 xs) ≡ get_or xs i 0
   byte_at i at e = rw e at (part_spread 8 xs i fits)
 
-  pub four_bytes : (i j k l at : ℕ) → i + 1 ≡ j → i + 2 ≡ k → i + 3 ≡ l → 8 * i ≡ at
-      → get_or xs i 0 * 2 ^ 24 + get_or xs j 0 * 2 ^ 16 + get_or xs k 0 * 2 ^ 8 + get_or xs l 0 ≡ part 32 at (spread 8 xs)
-  four_bytes i j k l at ej ek el e =
+  pub eight_bytes : (i at : ℕ) → 8 * i ≡ at
+      → from_be_bytes w64 (get_or xs i 0 ∷ get_or xs (i + 1) 0 ∷ get_or xs (i + 2) 0 ∷ get_or xs (i + 3) 0
+      ∷ get_or xs (i + 4) 0 ∷ get_or xs (i + 5) 0 ∷ get_or xs (i + 6) 0 ∷ get_or xs (i + 7) 0 ∷ [])
+      ≡ part 64 at (spread 8 xs)
+  eight_bytes i at e =
       omega (
         arith,
-        part_add 8 24 at (spread 8 xs),
-        part_add 8 16 (at + 8) (spread 8 xs),
-        part_add 8 8 (at + 8 + 8) (spread 8 xs),
+        part_add 8 56 at (spread 8 xs),
+        part_add 8 48 (at + 8) (spread 8 xs),
+        part_add 8 40 (at + 8 + 8) (spread 8 xs),
+        part_add 8 32 (at + 8 + 8 + 8) (spread 8 xs),
+        part_add 8 24 (at + 8 + 8 + 8 + 8) (spread 8 xs),
+        part_add 8 16 (at + 8 + 8 + 8 + 8 + 8) (spread 8 xs),
+        part_add 8 8 (at + 8 + 8 + 8 + 8 + 8 + 8) (spread 8 xs),
         byte_at i at e,
-        byte_at j (at + 8) (omega arith),
-        byte_at k (at + 8 + 8) (omega arith),
-        byte_at l (at + 8 + 8 + 8) (omega arith),
+        byte_at (i + 1) (at + 8) (omega arith),
+        byte_at (i + 2) (at + 8 + 8) (omega arith),
+        byte_at (i + 3) (at + 8 + 8 + 8) (omega arith),
+        byte_at (i + 4) (at + 8 + 8 + 8 + 8) (omega arith),
+        byte_at (i + 5) (at + 8 + 8 + 8 + 8 + 8) (omega arith),
+        byte_at (i + 6) (at + 8 + 8 + 8 + 8 + 8 + 8) (omega arith),
+        byte_at (i + 7) (at + 8 + 8 + 8 + 8 + 8 + 8 + 8) (omega arith),
       )
 
-  -- The last byte, and zeros.
-  pub last_byte : length xs ≡ 29 → get_or xs 28 0 * 2 ^ 24 + 0 * 2 ^ 16 + 0 * 2 ^ 8 + 0 ≡ part 32 224 (spread 8 xs)
-  last_byte l =
-      let past : part 24 232 (spread 8 xs) ≡ 0 = part_past 24 232 (spread 8 xs) (rw (length-spread, l) (omega arith)) in
-      omega (arith, part_add 8 24 224 (spread 8 xs), byte_at 28 224 refl)
-
--- A word is its two halves; the second one may be zeros.
-pub two_quads : (at mid : ℕ) (bs : List Bool) → at + 32 ≡ mid → part 32 at bs * 2 ^ 32 % 2 ^ 64 + part 32 mid bs ≡ part 64 at bs
-two_quads at mid bs e = omega (arith, rw e at (part_add 32 32 at bs), part_lt 32 at bs)
-
-pub one_quad : (at mid : ℕ) (bs : List Bool) → at + 32 ≡ mid → length bs ≤ mid → part 32 at bs * 2 ^ 32 % 2 ^ 64 ≡ part 64 at bs
-one_quad at mid bs e h = omega (arith, two_quads at mid bs e, part_past 32 mid bs h)
+-- Byte k of a draft of words of 32 bits.
+pub draft_byte : (draft : List ℕ) (out : List Bool) → draft ≡ cut 32 32 (length draft) out → (k : ℕ) → k / 4 < length draft
+    → get_or draft (k / 4) 0 / 2 ^ (24 - 8 * (k % 4)) % 2 ^ 8 ≡ part 8 (8 * k) out
+draft_byte draft out e k h = cut_part 32 32 (length draft) out draft e (k / 4) (8 * (k % 4)) 8 (24 - 8 * (k % 4)) (8 * k) h (omega arith) (omega arith)

@@ -4,8 +4,8 @@ use mathlib.Core.List.{List, [], ◌∷◌, ◌++◌, append_assoc}
 use mathlib.Core.Bool.{Bool, false}
 use mathlib.Core.Path.{◌≡◌, refl, sym, ap, ◌∙◌}
 use native.Mathlib.Omega.{arith}
-use native.Mathlib.Nat.{suc-add, zero-add}
-use lib.Pow.{high, low}
+use native.Mathlib.Nat.{suc-add, zero-add, add_comm, add-mul, mul_assoc, mod-eq_of_lt, mul-add-mod_self_right}
+use lib.Pow.{high, low, pow-add, shl_lt}
 use lib.ListN.{length, take, drop, length-append, length-drop, length-replicate, replicate-append-replicate, drop_of_length-le}
 use lib.Seq.{drop-nil, drop-drop, take_all, take-append-le, take_at}
 use Rattle.bits.specs.Bits.{number, zeros}
@@ -91,3 +91,13 @@ part_pad w at k bs = sym (last (bs ++ zeros k)) ∙ rw (front_pad (at + w) k bs)
   where
     last : (bs : List Bool) → part (at + w) 0 bs % 2 ^ w ≡ part w at bs
     last bs = rw zero-add at (part_low at w 0 bs)
+
+-- A number shifted over the top of its word: what is left are the bits from bit o on, and zeros.
+pub shifted_out : (o r at : ℕ) (bs : List Bool) → part (o + r) at bs * 2 ^ o % 2 ^ (o + r) ≡ part r (at + o) bs * 2 ^ o
+shifted_out o r at bs =
+    let low : part r (at + o) bs * 2 ^ o < 2 ^ (r + o) = shl_lt r o (part_lt r (at + o) bs) in
+    rw (part_add o r at bs, add-mul, mul_assoc, ← pow-add 2 r o, add_comm o r, mul-add-mod_self_right) (mod-eq_of_lt low)
+
+-- At the end of the bits it is the part that begins there.
+pub shifted_up : (o r at : ℕ) (bs : List Bool) → length bs ≤ at + o + r → part (o + r) at bs * 2 ^ o % 2 ^ (o + r) ≡ part (r + o) (at + o) bs
+shifted_up o r at bs h = omega (arith, shifted_out o r at bs, part_add r o (at + o) bs, part_past o (at + o + r) bs h)

@@ -4,14 +4,14 @@ use mathlib.Core.List.{List, [], ◌∷◌}
 use mathlib.Core.Bool.{Bool, true, false}
 use mathlib.Core.Path.{◌≡◌, refl, sym, ap, ◌∙◌}
 use native.Mathlib.Omega.{arith}
-use native.Mathlib.Nat.{add-zero, zero-mul, zero-div, add_comm, add-mul, mul_assoc, mod-eq_of_lt, mul-add-mod_self_right, pow-succ'}
+use native.Mathlib.Nat.{add-zero, zero-mul, zero-div, pow-succ'}
 use lib.Count.{count_leading_zeros, leading_length, leading_unique}
-use lib.Pow.{pow_pos, pow-add, shl_lt, shl-shr}
+use lib.Pow.{pow_pos, shl-shr}
 use lib.ListN.{length, drop, get_or, length-drop, length-replicate}
 use lib.Seq.{drop-drop}
 use Rattle.bits.specs.Bits.{number, spread, leading}
 use Rattle.bits.proofs.Spelling.{number_on_law, number_append, number_lt}
-use Rattle.bits.proofs.Fronts.{front, front_all, length_front, part, part_add, part_lt, number-zeros}
+use Rattle.bits.proofs.Fronts.{front, front_all, length_front, part, number-zeros, shifted_out}
 use Rattle.bits.proofs.Cutting.{length-spread, part_spread}
 
 leading-number : (bs : List Bool) → leading bs ≡ count_leading_zeros (length bs) (number bs)
@@ -62,12 +62,6 @@ no_one : (bs : List Bool) → number bs ≡ 0 → length bs ≤ leading bs
 no_one [] h = omega arith
 no_one (true ∷ bs) h = absurd (omega (arith, number_on_law (0 * 2 + 1) bs, pow_pos (length bs)))
 no_one (false ∷ bs) h = omega (arith, no_one bs h)
-
--- A number shifted over the top of its word: what is left are the bits from bit o on, and zeros.
-shifted_out : (o r at : ℕ) (bs : List Bool) → part (o + r) at bs * 2 ^ o % 2 ^ (o + r) ≡ part r (at + o) bs * 2 ^ o
-shifted_out o r at bs =
-    let low : part r (at + o) bs * 2 ^ o < 2 ^ (r + o) = shl_lt r o (part_lt r (at + o) bs) in
-    rw (part_add o r at bs, add-mul, mul_assoc, ← pow-add 2 r o, add_comm o r, mul-add-mod_self_right) (mod-eq_of_lt low)
 
 module _ (xs : List ℕ) (fits : (i : ℕ) → get_or xs i 0 < 2 ^ 64) (at : ℕ) where
   ahead : get_or xs (at / 64) 0 * 2 ^ (at % 64) % 2 ^ 64 ≡ part (64 - at % 64) at (spread 64 xs) * 2 ^ (at % 64)

@@ -1,18 +1,22 @@
-use mathlib.Core.Path.{sym}
-use native.Mathlib.Omega.{arith}
-use borrow.Author.Count.{below_more}
-use borrow.Author.Tests.{eq-eqb, ne_eqb}
+use Prim.Native.Nat.{ℕ, ◌*◌, ◌^◌, ◌<◌}
+use mathlib.Core.Bool.{Bool, true, false}
+use mathlib.Core.List.{List}
+use mathlib.Core.Logic.{◌↔◌}
+use mathlib.Core.Path.{◌≡◌, refl, sym}
 use borrow.Author.Rules.{rules}
+use borrow.Author.Tests.{eq-eqb, ne_eqb}
+use lib.Dec.{eqb}
+use lib.ListN.{length, get_or}
+use Rattle.std.specs.Prelude.{IsTrue, EachIndex}
+use Rattle.std.proofs.lemmas.Bool.{true≢false}
+use Rattle.bits.specs.Bits.{spread, leading}
 use Rattle.bits.proofs.Clearing.{all_lead, lead_all}
 use Rattle.bits.proofs.all_zero.Goals as goal
 
-pub returns-then-words-k-ne0 : goal.returns-then-words-k-ne0
-returns-then-words-k-ne0 c =
-    let words = c.args.words.now in
-    sym (ne_eqb _ _ (λ e. c.if-words-k-ne0.true (lead_all 64 words (λ i. (c.type_inv.words i).fits) e _)))
-
-pub loop-k-preserved : goal.loop-k-preserved
-loop-k-preserved c = (search rules, below_more _ _ c.loop-k.invariant.1 c.if-words-k-ne0.false)
+told : (xs : List ℕ) → ((i : ℕ) → get_or xs i 0 < 2 ^ 64) → (t : Bool) → (IsTrue t ↔ EachIndex xs (λ k. get_or xs k 0 ≡ 0))
+    → t ≡ eqb (leading (spread 64 xs)) (64 * length xs)
+told xs fits true h = sym (eq-eqb _ _ (all_lead 64 xs (h.0 refl)))
+told xs fits false h = sym (ne_eqb _ _ (λ e. true≢false (sym (h.1 (λ i l. lead_all 64 xs fits e i)))))
 
 pub returns : goal.returns
-returns c = sym (eq-eqb _ _ (all_lead 64 c.args.words.now (λ i l. c.loop-k.invariant.1 i (omega arith))))
+returns c = told c.args.words.now (λ i. (c.type_inv.words i).fits) c.all.result (search rules)

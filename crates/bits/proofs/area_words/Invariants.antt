@@ -1,12 +1,10 @@
-use Prim.Native.Nat.{◌-◌, ◌≤◌}
-use lib.ListN.{length}
+use Prim.Native.Nat.{ℕ, ◌*◌, ◌<◌}
+use mathlib.Core.Path.{◌≡◌}
+use lib.ListN.{get_or}
 use Rattle.bits.specs.Bits.{spread}
-use Rattle.bits.proofs.Cutting.{Filled}
+use Rattle.bits.proofs.Fronts.{part}
 use Rattle.bits.proofs.area_words.Given as goal
 
--- The loop's invariant: the words so far are those of the cut.
+-- The words so far are those of the cut.
 abbrev pub invariant-loop-j : goal.invariant-loop-j
-invariant-loop-j l = (l.j ≤ length l.initial.words) × Filled 32 64 (length l.initial.words) (spread 8 l.bytes) l.j l.words
-
-abbrev pub decreases-loop-j : goal.decreases-loop-j
-decreases-loop-j l = length l.initial.words - l.j
+invariant-loop-j l = (k : ℕ) → k < l.j → get_or l.words k 0 ≡ part 64 (32 * k) (spread 8 l.bytes)

@@ -1,13 +1,10 @@
-use Prim.Native.Nat.{◌+◌, ◌*◌, ◌-◌, ◌≤◌}
+use Prim.Native.Nat.{◌+◌, ◌*◌, max}
 use mathlib.Core.Path.{◌≡◌}
-use lib.ListN.{length, drop}
+use lib.ListN.{drop}
 use Rattle.bits.specs.Bits.{spread, leading}
 use Rattle.bits.proofs.first_one.Given as goal
 
--- The loop's invariant: the bits from the first place up to this one are zeros.
-abbrev pub invariant-loop-at : goal.invariant-loop-at
-invariant-loop-at l =
-    (l.at ≤ 64 * length l.whole) × (l.from + leading (drop l.from (spread 64 l.whole)) ≡ l.at + leading (drop l.at (spread 64 l.whole)))
-
-abbrev pub decreases-loop-at : goal.decreases-loop-at
-decreases-loop-at l = 64 * length l.whole - l.at
+-- The bits from the first place up to word k are zeros.
+abbrev pub invariant-loop-k : goal.invariant-loop-k
+invariant-loop-k l =
+    l.from + leading (drop l.from (spread 64 l.whole)) ≡ max l.from (64 * l.k) + leading (drop (max l.from (64 * l.k)) (spread 64 l.whole))

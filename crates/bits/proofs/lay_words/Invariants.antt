@@ -1,4 +1,4 @@
-use Prim.Native.Nat.{◌*◌, ◌-◌, ◌≤◌}
+use Prim.Native.Nat.{◌*◌, ◌≤◌}
 use mathlib.Core.List.{List}
 use mathlib.Core.Bool.{Bool}
 use mathlib.Core.Path.{◌≡◌}
@@ -10,8 +10,5 @@ use Rattle.bits.proofs.lay_words.Given as goal
 -- The loop's invariant: the words so far, two a whole word, are laid.
 abbrev pub invariant-loop-k : goal.invariant-loop-k
 invariant-loop-k l =
-    (l.k ≤ length l.whole) × (length l.draft ≡ length l.initial.draft)
-    × ((out : List Bool) → length out ≤ leading (spread 64 l.whole) → l.initial.draft ≡ cut 32 32 (length l.initial.draft) out → Over (length l.initial.draft) out (spread 64 l.whole) (2 * l.k) l.draft)
-
-abbrev pub decreases-loop-k : goal.decreases-loop-k
-decreases-loop-k l = length l.whole - l.k
+    (out : List Bool) → length out ≤ leading (spread 64 l.whole) → l.initial.draft ≡ cut 32 32 (length l.initial.draft) out
+    → Over (length l.initial.draft) out (spread 64 l.whole) (2 * l.k) l.draft

@@ -1,42 +1,47 @@
-use Prim.Native.Nat.{ℕ, ◌+◌, ◌*◌, ◌/◌, ◌%◌, ◌^◌, ◌<◌}
-use mathlib.Core.Path.{◌≡◌, refl}
+use Prim.Native.Nat.{ℕ, zero, suc, ◌+◌, ◌*◌, ◌/◌, ◌%◌, ◌^◌, ◌-◌, ◌<◌, ◌≤◌}
+use mathlib.Core.List.{List}
+use mathlib.Core.Logic.{inl, inr}
+use mathlib.Core.Path.{◌≡◌, sym, ◌∙◌}
 use native.Mathlib.Omega.{arith}
-use borrow.Author.Rules.{rules}
-use lib.ListN.{length, get_or, length-set}
+use lib.ListN.{length, get_or}
+use borrow.Rule.Slice.PartMut.{put_mid}
+use Rattle.std.specs.Int.{w32, to_be_bytes}
+use Rattle.std.proofs.lemmas.Bool.{cases_lt}
+use Rattle.std.proofs.lemmas.List.{places}
 use Rattle.bits.proofs.Fronts.{part}
-use Rattle.bits.proofs.Cutting.{cut_part, filled_none, filled_more}
+use Rattle.bits.proofs.Cutting.{draft_byte, cut_at}
 use Rattle.bits.proofs.pack_words.Goals as goal
 
-pub loop-j-init : goal.loop-j-init
-loop-j-init c = (refl, (search rules, λ out e. filled_none 8 8 _ out _ refl))
+-- The bytes of a number, of which the low 32 bits are taken.
+word_bytes : (n i : ℕ) → i < 4 → get_or (to_be_bytes w32 (n % 2 ^ 32)) i 0 ≡ n / 2 ^ (24 - 8 * i) % 2 ^ 8
+word_bytes n zero h = omega arith
+word_bytes n (suc zero) h = omega arith
+word_bytes n (suc (suc zero)) h = omega arith
+word_bytes n (suc (suc (suc zero))) h = omega arith
+word_bytes n (suc (suc (suc (suc i)))) h = absurd (omega arith)
+
+-- Four bytes more.
+put_more : (f : ℕ → ℕ) (a m : ℕ) (xs ys : List ℕ) → a + 4 ≤ length xs → length ys ≡ 4 → ((k : ℕ) → k < a → get_or xs k 0 ≡ f k)
+    → ((i : ℕ) → i < 4 → get_or ys i 0 ≡ f (a + i)) → (k : ℕ) → k < a + 4 → get_or (put_mid a m xs ys) k 0 ≡ f k
+put_more f a m xs ys l e below here k h =
+    elim (cases_lt k a) [
+      | inl b ↦ grind (arith, places, below k b)
+      | inr b ↦
+          let there : a + (k - a) ≡ k = omega arith in
+          let put : get_or ys (k - a) 0 ≡ f (a + (k - a)) = here (k - a) (omega arith) in
+          grind (arith, places, rw there at put)
+    ]
 
 pub loop-j-preserved : goal.loop-j-preserved
-loop-j-preserved c =
-    let j = c.loop-j.j in
-    let draft = c.args.draft.now in
-    let bytes = c.args.bytes.now in (
-      simp length-set c.loop-j.invariant.0,
-      (
-        search rules,
-        λ out e.
-            let byte : (o r at : ℕ) → o + 8 + r ≡ 32 → 32 * j + o ≡ at → get_or draft j 0 / 2 ^ r % 2 ^ 8 ≡ part 8 at out =
-            λ o r at f g. cut_part 32 32 (length draft) out draft e j o 8 r at (search rules) f g in
-            let inside : 4 * j + 3 < length bytes = omega arith in
-            let a = filled_more (4 * j + 1) refl (c.loop-j.invariant.1.1 out e) (omega arith) (byte 0 24 (8 * (4 * j)) refl (omega arith)) in
-            let b = filled_more (4 * j + 2) (omega arith) a (omega arith) (byte 8 16 (8 * (4 * j + 1)) refl (omega arith)) in
-            let d = filled_more (4 * j + 3) (omega arith) b (omega arith) (byte 16 8 (8 * (4 * j + 2)) refl (omega arith)) in
-            filled_more (4 * (j + 1)) (omega arith) d (omega arith) (omega (arith, byte 24 0 (8 * (4 * j + 3)) refl (omega arith))),
-      ),
-    )
+loop-j-preserved c out e k h =
+    let s = c.loop-j in
+    let four = c.copy_from_slice.ensures.after ∙ c.to_be_bytes.ensures in
+    put_more (λ (k : ℕ). part 8 (8 * k) out) (4 * s.j) _ s.bytes _ (omega arith) (rw four) (s.invariant out e)
+    (λ i l.
+    let place : (4 * s.j + i) / 4 ≡ s.j = omega arith in
+    let within : (4 * s.j + i) % 4 ≡ i = omega arith in
+    rw four (word_bytes _ i l ∙ rw (place, within) at (draft_byte _ out e (4 * s.j + i) (omega arith))))
+    k (omega arith)
 
-pub returns : goal.returns
-returns c = record { upper_bound = omega arith; bytes_after = λ out e. (c.loop-j.invariant.1.1 out e).same }
-
-pub bounds-bytes-j-in-loop-j : goal.bounds-bytes-j-in-loop-j
-bounds-bytes-j-in-loop-j c = simp length-set (omega arith)
-
-pub bounds-bytes-j-in-loop-j-2 : goal.bounds-bytes-j-in-loop-j-2
-bounds-bytes-j-in-loop-j-2 c = simp length-set (omega arith)
-
-pub bounds-bytes-j-in-loop-j-3 : goal.bounds-bytes-j-in-loop-j-3
-bounds-bytes-j-in-loop-j-3 c = simp length-set (omega arith)
+pub returns-clause-bytes_after : goal.returns-clause-bytes_after
+returns-clause-bytes_after c out e k h = c.loop-j.invariant out e k (omega arith) ∙ sym (cut_at 8 8 _ k out (omega arith))
