@@ -13,7 +13,7 @@ use records::{BYTES, LAST_MINUTE, MOST_RECORDS, Refusal, event};
 use selection::Selected;
 
 // The card, the time, the gate's operator, and what the event says.
-#[derive(Clone, Copy)]
+#[derive(Clone, Copy, PartialEq, Eq, Debug)]
 pub struct Passage {
     // contract records, counter positions
     pub n: u32,
@@ -69,6 +69,7 @@ impl Passage {
 
 // Selects the contract that the gate uses, changes its priority in the lent list, and puts the event first in the lent journal.
 // Refused, both are as they were.
+#[tactic(auto, unfolding(crate::specs::Passage::passing, crate::specs::Passage::chosen))]
 pub fn pass(list: &mut [u8], file: &[u8], journal: &mut [u8], passage: Passage) -> Selected
     ensures { record { answer = result; list = list.new; journal = journal.new }
         ≡ passing passage list.old file.now journal.old }
@@ -119,14 +120,11 @@ fn put_first(journal: &mut [u8], e: Event)
     event::write(&mut journal[0..BYTES], e);
 }
 
-// Gives each record but the first the bytes of the one before it, from the last byte on.
+// Gives each record but the first the bytes of the one before it.
 fn move_down(journal: &mut [u8])
     requires { 29 ≤ length journal.old }
     ensures { journal.new ≡ moved_down journal.old }
 {
-    let mut i = journal.len();
-    while BYTES < i {
-        i -= 1;
-        journal[i] = journal[i - BYTES];
-    }
+    let kept = journal.len() - BYTES;
+    journal.copy_within(..kept, BYTES);
 }
