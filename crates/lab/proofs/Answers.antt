@@ -1,18 +1,33 @@
 -- From a run of the second reader to the answer about a record, an area or a list.
-use Rattle.std.proofs.Common.{◌≡◌, ℕ, zero, suc, ◌+◌, ◌-◌, ◌*◌, ◌^◌, ◌<◌, ◌≤◌, Bool, true, false, List, [], length, take, drop, sym, refl, ap, ◌∙◌, arith, length-drop, length-take-le, drop-cons, take-take, eq-eqb, ne_eqb}
+use Rattle.std.proofs.Common.{Option, None, Some, is_some, ◌≡◌, ◌≢◌, ℕ, zero, suc, ◌+◌, ◌-◌, ◌*◌, ◌^◌, ◌<◌, ◌≤◌, Bool, true, false, List, [], length, take, drop, sym, refl, ap, ◌∙◌, arith, length-drop, length-take-le, drop-cons, take-take, eq-eqb, ne_eqb}
 use Rattle.bits.specs.Bits.{spread, cut, cleared, leading}
 use Rattle.bits.proofs.Cutting.{length_cut, length-spread}
 use Rattle.rows.specs.Row.{Row}
 use Rattle.rows.specs.Walk.{done, refused, walk, boxes_at, holding, blank, read, read_bare, slots}
 use Rattle.rows.proofs.Naming.{read_names}
+use Rattle.rows.specs.Inner.Standing.{why_of}
+use Rattle.rows.specs.declared.Why.{Why}
 use Rattle.lab.specs.Machine.{begun, run}
-use Rattle.lab.specs.Inner.Reading.{Fits, by, Reads, ReadsBare}
-use Rattle.lab.specs.declared.state.State.{State}
+use Rattle.lab.specs.Inner.Reading.{met, Fits, by, Reads, ReadsBare}
+use Rattle.lab.specs.Machine.{Reader}
 use Rattle.lab.proofs.Following.{outcome, followed}
 use Rattle.lab.proofs.Running.{length_cleared}
-use Rattle.records.specs.Answer.{refusal, refusal_at, answered, valued, from, read_record, area_length, read_area}
+use Rattle.records.proofs.Answering.{answer_none, answer_one}
+use Rattle.records.specs.declared.Refusal.{Refusal}
+use Rattle.records.specs.Answer.{as_answer, refusal, refusal_at, answered, valued, from, read_record, area_length, read_area}
 use Rattle.lists.specs.Listing.{read_list}
 use Rattle.records.specs.Answer.{Answer}
+
+pub unmet : (w : Option Why) → is_some w ≡ false → why_of w ≡ 0
+unmet None e = refl
+unmet (Some w) e = cc
+
+-- What a state met.
+pub met_none : (s : Reader) → refusal 0 0 ≡ met s → s.why ≡ 0
+met_none s e = answer_none s.why s.start s.row e
+
+pub met_one : (r : Refusal) (s : Reader) → as_answer r ≡ met s → s.why ≢ 0
+met_one r s e = answer_one r s.why s.start s.row e
 
 -- The first numbers, by name.
 front_from : (l : List ℕ) (i n : ℕ) → i + n ≤ length l → from i n l ≡ take n (drop i l)
@@ -21,7 +36,7 @@ front_from l i (suc n) h =
     let rest : suc i + n ≤ length l = omega arith in
     rw (drop-cons l i 0 (omega arith), front_from l (suc i) n rest)
 
-module _ (rows : List Row) (most : ℕ) (bytes : List ℕ) (n : ℕ) (s : State) (fits : Fits rows (length bytes) n)
+module _ (rows : List Row) (most : ℕ) (bytes : List ℕ) (n : ℕ) (s : Reader) (fits : Fits rows (length bytes) n)
     (runs : s ≡ run rows (begun rows most (8 * length bytes)) (spread 8 bytes)) where
   -- The last state tells the walk.
   tells : outcome (slots rows) s ≡ walk (length (spread 8 bytes)) (boxes_at (spread 8 bytes)) rows 0 [] 0

@@ -12,12 +12,12 @@ use Rattle.rows.proofs.Stepping.{total_none, broken_none}
 use Rattle.rows.proofs.Taking.{numbers_none}
 use Rattle.rows.proofs.Walked.{walk_row}
 use Rattle.lab.specs.Machine.{stopped, passed, entered, arrived, closed, counted, stepped, begun, run}
-use Rattle.lab.specs.declared.state.State.{State}
+use Rattle.lab.specs.Machine.{Reader}
 use Rattle.lab.specs.Inner.Reading.{narrow, sized, all_sized}
 use Rattle.lab.proofs.Filling.{padded, padded_zeros, get_or_padded, filled_more}
 
 -- What a state at the end tells, of a table with n slots.
-abbrev pub outcome : ℕ → State → Outcome (List ℕ)
+abbrev pub outcome : ℕ → Reader → Outcome (List ℕ)
 outcome n s = pick (eqb s.why 0) (done (take n s.numbers) s.start) (refused s.why s.start s.row)
 
 -- Rules and conditions see nothing of the zeros behind the numbers.
@@ -34,7 +34,7 @@ told_padded (above slot j) seen k = rw get_or_padded
 
 module _ (rows : List Row) where
   -- After a refusal nothing moves.
-  stuck : (s : State) (bs : List Bool) → eqb s.why 0 ≡ false → run rows s bs ≡ s
+  stuck : (s : Reader) (bs : List Bool) → eqb s.why 0 ≡ false → run rows s bs ≡ s
   unfolding stepped
   stuck s [] e = refl
   stuck s (b ∷ bs) e = rw still (stuck s bs e)
@@ -43,11 +43,11 @@ module _ (rows : List Row) where
       still = rw e
 
   -- Behind the last row bits tell nothing.
-  in_margin : (n : ℕ) (s : State) (bs : List Bool) → drop s.row rows ≡ [] → outcome n (run rows s bs) ≡ outcome n s
+  in_margin : (n : ℕ) (s : Reader) (bs : List Bool) → drop s.row rows ≡ [] → outcome n (run rows s bs) ≡ outcome n s
   unfolding stepped
   in_margin n s [] e = refl
   in_margin n s (b ∷ bs) e =
-      ap (λ (t : State). outcome n (run rows t bs)) turn
+      ap (λ (t : Reader). outcome n (run rows t bs)) turn
       ∙ go (eqb s.why 0 && ltb s.at s.room) (in_margin n (counted s) bs e) (in_margin n s bs e)
     where
       turn : stepped rows s b ≡ pick (eqb s.why 0 && ltb s.at s.room) (counted s) s
@@ -60,12 +60,12 @@ module _ (rows : List Row) where
 
 module _ (room most : ℕ) where
   -- At the beginning of row i, after the numbers seen, from a bit on.
-  abbrev at_row : ℕ → List ℕ → ℕ → State
+  abbrev at_row : ℕ → List ℕ → ℕ → Reader
   at_row i seen at =
       record { room = room; most = most; at = at; why = 0; row = i; start = at; first = length seen; numbers = padded seen }
 
   -- In its field, after some bits of it.
-  abbrev amid : ℕ → List ℕ → ℕ → List ℕ → List Bool → State
+  abbrev amid : ℕ → List ℕ → ℕ → List ℕ → List Bool → Reader
   amid i seen at ws bs =
       record {
         room = room;
@@ -96,13 +96,13 @@ module _ (room most : ℕ) where
     all_bits : (bs cs rest : List Bool) → 0 < length cs → length bs + length cs ≡ total r.boxes
         → run rows (amid i seen at r.boxes bs) (cs ++ rest) ≡ run rows (closed r rs (amid i seen at r.boxes (bs ++ cs))) rest
     all_bits bs [] rest some e = absurd (omega arith)
-    all_bits bs (c ∷ []) rest some e = ap (λ (t : State). run rows t rest) (one_bit bs c (omega arith))
+    all_bits bs (c ∷ []) rest some e = ap (λ (t : Reader). run rows t rest) (one_bit bs c (omega arith))
     all_bits bs (c ∷ d ∷ cs) rest some e =
         let inside : length bs < total r.boxes = omega arith in
         let now : length (bs ++ (c ∷ [])) ≡ length bs + 1 = length-append bs (c ∷ []) in
         let before : length (bs ++ (c ∷ [])) < total r.boxes = omega arith in
         let later : length (bs ++ (c ∷ [])) + length (d ∷ cs) ≡ total r.boxes = omega arith in
-        ap (λ (t : State). run rows t (d ∷ cs ++ rest)) (one_bit bs c inside ∙ unclosed (bs ++ (c ∷ [])) before)
+        ap (λ (t : Reader). run rows t (d ∷ cs ++ rest)) (one_bit bs c inside ∙ unclosed (bs ++ (c ∷ [])) before)
         ∙ all_bits (bs ++ (c ∷ [])) (d ∷ cs) rest (omega arith) later
         ∙ ap (λ (l : List Bool). run rows (closed r rs (amid i seen at r.boxes l)) rest) (append_assoc bs (c ∷ []) (d ∷ cs))
       where
@@ -180,7 +180,7 @@ module _ (most : ℕ) (rows : List Row) (bs : List Bool) (n : ℕ) (few : n ≤ 
         let same : passed r (at_row (length bs) most i seen at) ≡ at_row (length bs) most (suc i) (seen ++ zs) at = rw (row, next, pads) in
         let still : at + 0 ≡ at = omega arith in
         let narrow : exceeds zs zs ≡ false = rw numbers_none at (numbers_fit zs (drop at bs)) in
-        ap (λ (s : State). outcome n (run rows (arrived rs s) (drop at bs))) same
+        ap (λ (s : Reader). outcome n (run rows (arrived rs s) (drop at bs))) same
         ∙ later (seen ++ zs) at inside rest
         ∙ sym (walk_row (length bs) (boxes_at bs) r rs i seen at zs gives
         ∙ rw (absent, narrow, total_none, still, le-ltb (length bs) at inside, broken_none))
@@ -196,7 +196,7 @@ module _ (most : ℕ) (rows : List Row) (bs : List Bool) (n : ℕ) (few : n ≤ 
         vs : List ℕ
         vs = numbers ws (drop at bs)
 
-        s : State
+        s : Reader
         s = at_row (length bs) most i seen at
 
         xs : List Bool
@@ -238,7 +238,7 @@ module _ (most : ℕ) (rows : List Row) (bs : List Bool) (n : ℕ) (few : n ≤ 
             ≡ pick t (walk (length bs) (boxes_at bs) rs (suc i) (seen ++ vs) (at + total ws)) (refused (broken r.rule vs) at i)
         closes true e next = next
         closes false e next =
-            let stop : State = stopped (broken r.rule vs) (amid (length bs) most i seen at ws xs) in
+            let stop : Reader = stopped (broken r.rule vs) (amid (length bs) most i seen at ws xs) in
             ap (outcome n) (stuck rows stop (drop (at + total ws) bs) e) ∙ rw e
 
         go : (past : Bool) → ltb (length bs) (at + total ws) ≡ past
@@ -253,10 +253,10 @@ module _ (most : ℕ) (rows : List Row) (bs : List Bool) (n : ℕ) (few : n ≤ 
             let room : length seen + length ws ≤ 111 = omega arith in
             let same : numbers ws xs ≡ vs = numbers_front ws (drop at bs) (rw length-drop (omega arith)) in
             let parts : drop at bs ≡ xs ++ drop (at + total ws) bs = sym (take-append-drop (total ws) (drop at bs)) ∙ rw drop-drop in
-            ap (λ (t : State). outcome n (run rows t (drop at bs))) (opens room)
+            ap (λ (t : Reader). outcome n (run rows t (drop at bs))) (opens room)
             ∙ ap (λ (l : List Bool). outcome n (run rows (amid (length bs) most i seen at ws []) l)) parts
             ∙ ap (outcome n) (all_bits (length bs) most rows i r rs seen at here thinly ends [] xs (drop (at + total ws) bs) some (omega arith))
-            ∙ ap (λ (t : State). outcome n (run rows t (drop (at + total ws) bs))) (closing (length bs) most rows i r rs seen at here thinly ends xs long room)
+            ∙ ap (λ (t : Reader). outcome n (run rows t (drop (at + total ws) bs))) (closing (length bs) most rows i r rs seen at here thinly ends xs long room)
             ∙ ap after same
             ∙ closes (eqb (broken r.rule vs) 0) refl (later (seen ++ vs) (at + total ws) ends (rw (length-append, length-numbers) (omega arith)))
             ∙ sym (means ∙ ap meaning e)

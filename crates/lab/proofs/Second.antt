@@ -1,8 +1,11 @@
 -- The second reader answers what the working reader answers: for every string of bytes, every type, n, c and s, by the contracts of
 -- the code itself. `Learnt` of a function is its `ensures`, as a caller has it.
-use Rattle.std.proofs.Common.{◌≡◌, sym, ◌∙◌}
-use Rattle.records.proofs.Telling.{environment_one, event_one}
+use Rattle.std.proofs.Common.{◌≡◌, sym, refl, ◌∙◌}
+use Rattle.records.proofs.Telling.{environment_one, event_one, heard_one, result_one}
 use Rattle.contract.proofs.Telling.{contract_one}
+use Rattle.holder.specs.Holder.{HolderRead, holder_answer}
+use Rattle.lists.specs.List.{ListRead, list_answer}
+use Rattle.lists.specs.Special.{SpecialRead, special_answer}
 use Rattle.records.proofs.environment.read.Reads as environment
 use Rattle.records.proofs.event.read.Reads as event
 use Rattle.holder.proofs.read.Reads as holder
@@ -28,10 +31,10 @@ pub second_reader :
     × Same lab-list.Learnt list.Learnt
     × Same lab-special.Learnt special.Learnt
 second_reader = (
-  λ κs d x y e f p q. environment_one x y (p ∙ sym q),
-  λ κs d x y e f p q. event_one x y (p ∙ sym q),
-  λ κs d x y e f p q. p ∙ sym q,
-  λ κs d x y e f p q. contract_one x y (p ∙ sym q),
-  λ κs d x y e f p q. p ∙ sym q,
-  λ κs d x y e f p q. p ∙ sym q,
+  λ κs d x y e f p q. heard_one x y (environment_one _ _ (p ∙ sym q)),
+  λ κs d x y e f p q. heard_one x y (event_one _ _ (p ∙ sym q)),
+  λ κs d x y e f p q. result_one holder_answer (λ (h : HolderRead). h.refusal) (λ h. h.holder) (λ a. refl) (λ a. refl) (λ r. refl) x y (p ∙ sym q),
+  λ κs d x y e f p q. heard_one x y (contract_one _ _ (p ∙ sym q)),
+  λ κs d x y e f p q. result_one list_answer (λ (l : ListRead). l.refusal) (λ l. l.list) (λ a. refl) (λ a. refl) (λ r. refl) x y (p ∙ sym q),
+  λ κs d x y e f p q. result_one special_answer (λ (l : SpecialRead). l.refusal) (λ l. l.list) (λ a. refl) (λ a. refl) (λ r. refl) x y (p ∙ sym q),
 )

@@ -2,11 +2,14 @@
 // a field of one box that is always there and takes every number of its width.
 #![tactic(auto, unfolding(crate::specs::Layout::boxes_of, crate::specs::Layout::cond_of, crate::specs::Layout::rule_of), using(rows::proofs::Stepping::total_same, crate::proofs::Rows::some_width, crate::proofs::Rows::box_even))]
 
-ghost use Rattle.std.specs.Prelude.{◌≡◌, ◌≢◌, ◌^◌, ◌<◌, length, drop, slice_index, MatchOption};
+ghost use Rattle.std.specs.Prelude.{◌≡◌, ◌^◌, ◌<◌, length, drop, slice_index};
+ghost use Rattle.rows.specs.Inner.Standing.{why_of};
 ghost use Rattle.rows.specs.Row.{told, holds, broken};
 ghost use Rattle.rows.specs.Walk.{total};
 ghost use Rattle.lab.specs.Layout.{width_of, letters_of, when_of, slot_of, element_of, rule_number, limit_of, cond_of, boxes_of, rule_of};
 ghost use Rattle.lab.specs.Machine.{box_at};
+
+use records::Why;
 
 // How the parts of a row that say when and the rule are numbered; 0 is always, and any number. They are numbers and no enum, since
 // `when` and `rule` have the contracts that docs/CONTRACTS.md names, `when_of` and `rule_number`.
@@ -151,16 +154,16 @@ pub(crate) fn there(row: u64, numbers: &[u32]) -> bool
 }
 
 // The number of the refusal, where its rule is broken by its numbers, those from slot first on.
-pub(crate) fn broken(row: u64, most: u32, numbers: &[u32], first: u64) -> Option<u32>
+pub(crate) fn broken(row: u64, most: u32, numbers: &[u32], first: u64) -> Option<Why>
     requires { first < 2 ^ 32 }
-    ensures { MatchOption result (broken (rule_of most row) (drop first numbers.now) ≡ 0) (λ why. (broken (rule_of most row) (drop first numbers.now) ≡ why) × (why ≢ 0)) }
+    ensures { why_of result ≡ broken (rule_of most row) (drop first numbers.now) }
 {
     let number = at(numbers, first);
     match rule(row) {
-        LIMITED => (limit(row) < number as u64).then_some(4),
-        OF_TARIFF => (at(numbers, first + 2) == 13).then_some(4),
-        WITHOUT_SECOND => (number / 2 % 2 == 1).then_some(3),
-        LIMITED_BY_N => (most < number).then_some(4),
+        LIMITED => (limit(row) < number as u64).then_some(Why::OutOfRange),
+        OF_TARIFF => (at(numbers, first + 2) == 13).then_some(Why::OutOfRange),
+        WITHOUT_SECOND => (number / 2 % 2 == 1).then_some(Why::Unknown),
+        LIMITED_BY_N => (most < number).then_some(Why::OutOfRange),
         _ => None,
     }
 }

@@ -1,12 +1,12 @@
 // The rule of both lists, refusal 6.
 ghost use Rattle.std.specs.Prelude.{◌≡◌, ◌≢◌, ◌+◌, ◌*◌, ◌≤◌, slice_index, MatchOption};
 ghost use Rattle.rows.specs.Row.{among};
-ghost use Rattle.records.specs.Answer.{refusal_at};
+ghost use Rattle.records.specs.Answer.{as_answer, refusal_at};
 ghost use Rattle.lists.specs.Rules.{keeps};
 ghost use Rattle.lists.specs.Listing.{column, at_fault};
 
 use crate::row;
-use records::Refusal;
+use records::{Refusal, Why};
 
 // The number, from 1, of the first counted entry that does not keep the rule: of so many entries with so many numbers each, the
 // bitmap first and the pointer last. Document 01, "Numbers with a range".
@@ -65,10 +65,10 @@ fn of_entry(numbers: &[u32], size: u32, k: u32, slot: u32) -> u32
 
 // The refusal for an entry.
 pub(crate) fn against(entry: u32) -> Refusal
-    ensures { result ≡ refusal_at 6 entry 0 }
+    ensures { as_answer result ≡ refusal_at 6 entry 0 }
 {
     Refusal {
-        number: 6,
+        why: Why::ListRule,
         place: entry,
         field: 0,
     }

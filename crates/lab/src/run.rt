@@ -2,7 +2,7 @@
 ghost use Rattle.std.specs.Prelude.{◌≡◌, ◌*◌, ◌<◌, ◌≤◌, false, ◌++◌, map, length, take, drop, slice_index_or, MatchOption};
 ghost use Rattle.bits.specs.Bits.{bit, number, zeros, spread, cut, cleared, leading};
 ghost use Rattle.lab.specs.Layout.{row_of};
-ghost use Rattle.lab.specs.Machine.{begun, run};
+ghost use Rattle.lab.specs.Machine.{reader, begun, run};
 
 use crate::state::State;
 
@@ -19,7 +19,7 @@ pub fn bit_at(bytes: &[u8], place: u32) -> bool
 // The state behind the last bit.
 pub(crate) fn run(rows: &[u64], most: u32, bytes: &[u8]) -> State
     requires { length bytes.now ≤ 116 }
-    ensures { result ≡ run (map (row_of most) rows.now) (begun (map (row_of most) rows.now) most (8 * length bytes.now)) (spread 8 bytes.now) }
+    ensures { reader result ≡ run (map (row_of most) rows.now) (begun (map (row_of most) rows.now) most (8 * length bytes.now)) (spread 8 bytes.now) }
 {
     let room = 8 * bytes.len() as u32;
     let mut state = State::begin(rows, most, room);

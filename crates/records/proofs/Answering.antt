@@ -30,20 +30,26 @@ eight_words bytes words cuts = sym (ap length cuts ∙ length_cut 32 64 8 (sprea
 pub all_words : (bytes words : List ℕ) → words ≡ cut 32 64 8 (spread 8 bytes) → words ≡ cut 32 64 (length words) (spread 8 bytes)
 all_words bytes words cuts = rw (← eight_words bytes words cuts) cuts
 
--- What a walk met, as code tells it: nothing, so that there was no refusal, or one.
-pub met_none : (d : Standing) → refusal 0 0 ≡ met d → d.why ≡ 0
-met_none d e = go (eqb d.why 0) refl (ap (λ (a : Answer). a.number) e)
+-- What was met, as code tells it: nothing, so that there was no refusal, or one.
+pub answer_none : (n at i : ℕ) → refusal 0 0 ≡ pick (eqb n 0) (refusal 0 0) (refusal_at n at i) → n ≡ 0
+answer_none n at i e = go (eqb n 0) refl (ap (λ (a : Answer). a.number) e)
   where
-    go : (b : Bool) → eqb d.why 0 ≡ b → 0 ≡ (pick b (refusal 0 0) (refusal_at d.why d.at (d.field - 1))).number → d.why ≡ 0
-    go true h n = eqb-true _ _ h
-    go false h n = sym n
+    go : (b : Bool) → eqb n 0 ≡ b → 0 ≡ (pick b (refusal 0 0) (refusal_at n at i)).number → n ≡ 0
+    go true h z = eqb-true _ _ h
+    go false h z = sym z
+
+pub answer_one : (r : Refusal) (n at i : ℕ) → as_answer r ≡ pick (eqb n 0) (refusal 0 0) (refusal_at n at i) → n ≢ 0
+answer_one r n at i e = go (eqb n 0) refl (ap (λ (a : Answer). a.number) e)
+  where
+    go : (b : Bool) → eqb n 0 ≡ b → number_of r.why ≡ (pick b (refusal 0 0) (refusal_at n at i)).number → n ≢ 0
+    go true h z = absurd (numbered r.why z)
+    go false h z = eqb-false _ _ h
+
+pub met_none : (d : Standing) → refusal 0 0 ≡ met d → d.why ≡ 0
+met_none d e = answer_none d.why d.at (d.field - 1) e
 
 pub met_one : (r : Refusal) (d : Standing) → as_answer r ≡ met d → d.why ≢ 0
-met_one r d e = go (eqb d.why 0) refl (ap (λ (a : Answer). a.number) e)
-  where
-    go : (b : Bool) → eqb d.why 0 ≡ b → number_of r.why ≡ (pick b (refusal 0 0) (refusal_at d.why d.at (d.field - 1))).number → d.why ≢ 0
-    go true h n = absurd (numbered r.why n)
-    go false h n = eqb-false _ _ h
+met_one r d e = answer_one r d.why d.at (d.field - 1) e
 
 module _ {A : Type 0} (good : List ℕ → List ℕ → A) (bad : Answer → A) (rows : List Row) (bytes words all : List ℕ) (d : Standing) where
   module _ {room : ℕ} (n : ℕ) (few : length rows < 2 ^ 32) (long : 8 * length bytes ≡ room)

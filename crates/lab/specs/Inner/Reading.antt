@@ -3,8 +3,8 @@ use Rattle.std.specs.Prelude.{◌≡◌, ℕ, ◌*◌, ◌^◌, ◌<◌, ◌≤�
 use Rattle.bits.specs.Bits.{spread, cut, cleared}
 use Rattle.rows.specs.Row.{Row, pick}
 use Rattle.rows.specs.Walk.{Outcome, done, refused, total, holding, read, read_bare, slots}
-use Rattle.records.specs.Answer.{from}
-use Rattle.records.specs.Answer.{Answer}
+use Rattle.records.specs.Answer.{Answer, refusal, refusal_at, from}
+use Rattle.lab.specs.Machine.{Reader}
 
 -- Boxes of at most 32 bits.
 abbrev pub narrow : List ℕ → Bool
@@ -26,6 +26,10 @@ pub record Fits (rows : List Row) (bytes numbers : ℕ) : Type 0 where
   pub count : slots rows ≤ numbers
   pub few : numbers ≤ 111
   pub fits : all_sized (8 * bytes) rows ≡ true
+
+-- What a state met.
+abbrev pub met : Reader → Answer
+met s = pick (s.why == 0) (refusal 0 0) (refusal_at s.why s.start s.row)
 
 -- An outcome as a refusal, none being of number 0, beside what was read.
 abbrev pub by : {A : Type 0} → Answer → A → ℕ → Outcome A

@@ -1,4 +1,6 @@
-use Rattle.std.proofs.Common.{◌≡◌, ◌-◌, ◌<◌, length, take, drop, get_or, arith, length-take, length-drop, get_or-take, get_or-drop}
+use Rattle.std.proofs.Common.{◌≡◌, ◌+◌, ◌-◌, ◌<◌, map, ap, ◌∙◌, length, take, drop, get_or, arith, length-take, length-drop, get_or-take, get_or-drop}
+use Rattle.lab.specs.Layout.{row_of}
+use Rattle.lab.specs.Machine.{Reader, arrived}
 use Rattle.lab.proofs.Rows.{rows_from}
 use Rattle.lab.proofs.state.State.arrived.Goals as goal
 use Rattle.lab.proofs.state.State.arrived.Goals.{After-there}
@@ -23,4 +25,6 @@ returns-then-there c =
 pub loop-row-preserved : goal.loop-row-preserved
 loop-row-preserved c =
     let at = (goal.at.loop-row-preserved c).After-there in
-    (rw c.passed-s.ensures (omega arith), rw (c.passed-s.ensures, own at, ← c.loop-row.invariant.1, rows_from _ _ _ (inside at), ← (rw (own at) at c.there.ensures), c.if-there.false))
+    let rows = c.args.rows.now in
+    let next : c.passed-s.result.row ≡ c.loop-row.s.row + 1 = ap (λ (r : Reader). r.row) c.passed-s.ensures in
+    (omega (arith, c.loop-row.invariant.0), ap (λ (r : Reader). arrived (drop r.row (map (row_of r.most) rows)) r) c.passed-s.ensures ∙ rw (own at, ← c.loop-row.invariant.1, rows_from _ _ _ (inside at), ← (rw (own at) at c.there.ensures), c.if-there.false))
