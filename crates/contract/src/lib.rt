@@ -422,6 +422,7 @@ fn take_head(words: &[u64]) -> Part<Contract>
 }
 
 // The data of a type behind a head: none where they do not follow.
+#[tactic(auto, using(crate::proofs::Reading::rest_none, crate::proofs::Reading::rest42, crate::proofs::Reading::rest50))]
 fn take_data(words: &[u64], kind: u32, front: &Part<Contract>) -> Part<Data>
     requires { Taken words.now 232 head [] start (head_numbers front.now.value) (stand front.now.last) }
     ensures { TakeOf words.now kind front.now.value result.value (stand result.last) }
