@@ -353,7 +353,7 @@ impl Data50 {
     }
 }
 
-// Whether there is such a type. A type is a number, no enum: document 01 has refusal 3 for every other number.
+// Whether there is such a type. A kind is a u32 and no enum: document 01 has refusal 3 for every other number.
 pub fn known(kind: u32) -> bool
     ensures { result ≡ known kind }
 {
