@@ -1,7 +1,7 @@
 // Contract, of type 42h or 50h.
-#![tactic(auto)]
+#![tactic(auto, using(records::proofs::Following::took_ready, records::proofs::Following::gave_ready, records::proofs::Following::gave_long))]
 
-ghost use Rattle.std.specs.Prelude.{◌≡◌, Bool, List, [], ◌∷◌, ◌++◌, ℕ, length, take, drop};
+ghost use Rattle.std.specs.Prelude.{◌≡◌, Bool, List, [], ◌∷◌, ◌++◌, ℕ, ◌+◌, ◌≤◌, length, take, drop};
 ghost use Rattle.rows.specs.Inner.Step.{Ready, Drafted};
 ghost use Rattle.rows.specs.Inner.Standing.{stand};
 ghost use Rattle.rows.specs.Inner.Line.{start, Taken, Given};
@@ -96,9 +96,9 @@ pub struct Contract {
 
 impl Contract {
     // The two types, 42h and 50h.
-    pub const CARNET: u32 = 66;
+    pub const CARNET: u32 = 0x42;
 
-    pub const URBAN: u32 = 80;
+    pub const URBAN: u32 = 0x50;
 
     // The rank of the first field of the data, by which they are named as a whole, and the count of a walk that has come to it.
     const DATA_FIELD: u32 = 9;
@@ -145,13 +145,13 @@ impl Contract {
     pub fn of(kind: u32, numbers: [u32; 45], margin: Margin) -> Contract
         ensures { result ≡ contract_of kind numbers (words_of margin) }
     {
-        let head = head_part(numbers);
+        let head = part(&numbers, 0);
         Contract::of_head(head, Data::of(kind, numbers), margin)
     }
 }
 
 impl Data {
-    // The data of a type, where they follow.
+    // The data of a type, where they follow, behind the nine numbers of the head.
     fn of(kind: u32, numbers: [u32; 45]) -> Data
         ensures { result ≡ data_of kind numbers }
     {
@@ -159,78 +159,21 @@ impl Data {
             return Data::Nothing;
         }
         if kind == Contract::CARNET {
-            return Data::Carnet(Data42::of(carnet_part(numbers)));
+            return Data::Carnet(Data42::of(part(&numbers, 9)));
         }
-        Data::Urban(Data50::of(urban_part(numbers)))
+        Data::Urban(Data50::of(part(&numbers, 9)))
     }
 }
 
-fn head_part(numbers: [u32; 45]) -> [u32; 9]
-    ensures { result ≡ from 0 9 numbers }
+// The N numbers from number i on.
+#[tactic(auto, using(records::proofs::Inverse::named_part))]
+fn part<const N: usize>(numbers: &[u32; 45], i: usize) -> [u32; N]
+    requires { i + N ≤ 45 }
+    ensures { result ≡ from i N numbers.now }
 {
-    [
-        numbers[0], numbers[1], numbers[2], numbers[3], numbers[4], numbers[5], numbers[6],
-        numbers[7], numbers[8],
-    ]
-}
-
-fn carnet_part(numbers: [u32; 45]) -> [u32; 9]
-    ensures { result ≡ from 9 9 numbers }
-{
-    [
-        numbers[9],
-        numbers[10],
-        numbers[11],
-        numbers[12],
-        numbers[13],
-        numbers[14],
-        numbers[15],
-        numbers[16],
-        numbers[17],
-    ]
-}
-
-fn urban_part(numbers: [u32; 45]) -> [u32; 36]
-    ensures { result ≡ from 9 36 numbers }
-{
-    [
-        numbers[9],
-        numbers[10],
-        numbers[11],
-        numbers[12],
-        numbers[13],
-        numbers[14],
-        numbers[15],
-        numbers[16],
-        numbers[17],
-        numbers[18],
-        numbers[19],
-        numbers[20],
-        numbers[21],
-        numbers[22],
-        numbers[23],
-        numbers[24],
-        numbers[25],
-        numbers[26],
-        numbers[27],
-        numbers[28],
-        numbers[29],
-        numbers[30],
-        numbers[31],
-        numbers[32],
-        numbers[33],
-        numbers[34],
-        numbers[35],
-        numbers[36],
-        numbers[37],
-        numbers[38],
-        numbers[39],
-        numbers[40],
-        numbers[41],
-        numbers[42],
-        numbers[43],
-        numbers[44],
-    ]
+    let mut part = [0; N];
+    part.copy_from_slice(&numbers[i..i + N]);
+    part
 }
 
 impl Data42 {
@@ -410,7 +353,7 @@ impl Data50 {
     }
 }
 
-// Whether there is such a type. A type is a number, no enum: document 01 has refusal 3 for every other number.
+// Whether there is such a type. A kind is a u32 and no enum: document 01 has refusal 3 for every other number.
 pub fn known(kind: u32) -> bool
     ensures { result ≡ known kind }
 {
@@ -479,6 +422,7 @@ fn take_head(words: &[u64]) -> Part<Contract>
 }
 
 // The data of a type behind a head: none where they do not follow.
+#[tactic(auto, using(crate::proofs::Reading::rest_none, crate::proofs::Reading::rest42, crate::proofs::Reading::rest50))]
 fn take_data(words: &[u64], kind: u32, front: &Part<Contract>) -> Part<Data>
     requires { Taken words.now 232 head [] start (head_numbers front.now.value) (stand front.now.last) }
     ensures { TakeOf words.now kind front.now.value result.value (stand result.last) }
@@ -561,18 +505,19 @@ fn take_terms(words: &[u64], c: Cursor, bitmap: u32) -> Part<Data50>
     let origin = take::number(words, BITS, agent, When::Bit(groups.number, 1), 14);
     let destination = take::number(words, BITS, origin, When::Bit(groups.number, 1), 14);
     let via = take::number(words, BITS, destination, When::Bit(groups.number, 1), 14);
-    let mut data = Data50::NONE;
-    data.end_date = end_date.number;
-    data.grey_list = grey_list.number;
-    data.chrono = chrono.number;
-    data.flag = flag.number;
-    data.bitmap = groups.number;
-    data.agent = agent.number;
-    data.origin = origin.number;
-    data.destination = destination.number;
-    data.via = via.number;
     Part {
-        value: data,
+        value: Data50 {
+            end_date: end_date.number,
+            grey_list: grey_list.number,
+            chrono: chrono.number,
+            flag: flag.number,
+            bitmap: groups.number,
+            agent: agent.number,
+            origin: origin.number,
+            destination: destination.number,
+            via: via.number,
+            ..Data50::NONE
+        },
         last: via,
     }
 }
@@ -582,10 +527,8 @@ fn take_purse(words: &[u64], terms: Part<Data50>) -> Part<Data50>
     requires { Ready words.now 232 (stand terms.last) }
     ensures { (n : ℕ) (h : Contract) → Taken words.now 232 (take 9 (drop 9 data50)) (n ∷ behind h ++ take 9 (numbers50 terms.value)) (stand terms.last) (n ∷ behind h ++ take 18 (numbers50 result.value)) (stand result.last) }
 {
-    let c = terms.last;
-    let mut data = terms.value;
-    let groups = data.bitmap;
-    let token1 = take::number(words, BITS, c, When::Bit(groups, 2), 16);
+    let groups = terms.value.bitmap;
+    let token1 = take::number(words, BITS, terms.last, When::Bit(groups, 2), 16);
     let token2 = take::number(words, BITS, token1, When::Bit(groups, 2), 16);
     let autoload_start = take::number(words, BITS, token2, When::Bit(groups, 2), 14);
     let autoload_end = take::number(words, BITS, autoload_start, When::Bit(groups, 2), 14);
@@ -594,17 +537,19 @@ fn take_purse(words: &[u64], terms: Part<Data50>) -> Part<Data50>
     let purse = take::number(words, BITS, last_debit, When::Bit(groups, 4), 19);
     let debit = take::number(words, BITS, purse, When::Bit(groups, 4), 16);
     let passengers = take::number(words, BITS, debit, When::Bit(groups, 5), 6);
-    data.token1 = token1.number;
-    data.token2 = token2.number;
-    data.autoload_start = autoload_start.number;
-    data.autoload_end = autoload_end.number;
-    data.balance = balance.number;
-    data.last_debit = last_debit.number;
-    data.purse = purse.number;
-    data.debit = debit.number;
-    data.passengers = passengers.number;
     Part {
-        value: data,
+        value: Data50 {
+            token1: token1.number,
+            token2: token2.number,
+            autoload_start: autoload_start.number,
+            autoload_end: autoload_end.number,
+            balance: balance.number,
+            last_debit: last_debit.number,
+            purse: purse.number,
+            debit: debit.number,
+            passengers: passengers.number,
+            ..terms.value
+        },
         last: passengers,
     }
 }
@@ -614,25 +559,25 @@ fn take_zones(words: &[u64], purse: Part<Data50>) -> Part<Data50>
     requires { Ready words.now 232 (stand purse.last) }
     ensures { (n : ℕ) (h : Contract) → Taken words.now 232 (take 7 (drop 18 data50)) (n ∷ behind h ++ take 18 (numbers50 purse.value)) (stand purse.last) (n ∷ behind h ++ take 25 (numbers50 result.value)) (stand result.last) }
 {
-    let c = purse.last;
-    let mut data = purse.value;
-    let groups = data.bitmap;
-    let period_end = take::number(words, BITS, c, When::Bit(groups, 6), 14);
+    let groups = purse.value.bitmap;
+    let period_end = take::number(words, BITS, purse.last, When::Bit(groups, 6), 14);
     let period_balance = take::number(words, BITS, period_end, When::Bit(groups, 6), 6);
     let zone1 = take::number(words, BITS, period_balance, When::Bit(groups, 7), 6);
     let zone2 = take::number(words, BITS, zone1, When::Bit(groups, 7), 6);
     let zone3 = take::number(words, BITS, zone2, When::Bit(groups, 7), 6);
     let sections = take::number(words, BITS, zone3, When::Bit(groups, 8), 6);
     let sections_left = take::number(words, BITS, sections, When::Bit(groups, 8), 6);
-    data.period_end = period_end.number;
-    data.period_balance = period_balance.number;
-    data.zone1 = zone1.number;
-    data.zone2 = zone2.number;
-    data.zone3 = zone3.number;
-    data.sections = sections.number;
-    data.sections_left = sections_left.number;
     Part {
-        value: data,
+        value: Data50 {
+            period_end: period_end.number,
+            period_balance: period_balance.number,
+            zone1: zone1.number,
+            zone2: zone2.number,
+            zone3: zone3.number,
+            sections: sections.number,
+            sections_left: sections_left.number,
+            ..purse.value
+        },
         last: sections_left,
     }
 }
@@ -642,23 +587,23 @@ fn take_stops(words: &[u64], zones: Part<Data50>) -> Part<Data50>
     requires { Ready words.now 232 (stand zones.last) }
     ensures { (n : ℕ) (h : Contract) → Taken words.now 232 (take 6 (drop 25 data50)) (n ∷ behind h ++ take 25 (numbers50 zones.value)) (stand zones.last) (n ∷ behind h ++ take 31 (numbers50 result.value)) (stand result.last) }
 {
-    let c = zones.last;
-    let mut data = zones.value;
-    let groups = data.bitmap;
-    let stop1 = take::number(words, BITS, c, When::Bit(groups, 9), 14);
+    let groups = zones.value.bitmap;
+    let stop1 = take::number(words, BITS, zones.last, When::Bit(groups, 9), 14);
     let stop2 = take::number(words, BITS, stop1, When::Bit(groups, 9), 14);
     let stop3 = take::number(words, BITS, stop2, When::Bit(groups, 9), 14);
     let stop4 = take::number(words, BITS, stop3, When::Bit(groups, 9), 14);
     let line1 = take::number(words, BITS, stop4, When::Bit(groups, 10), 14);
     let line2 = take::number(words, BITS, line1, When::Bit(groups, 10), 14);
-    data.stop1 = stop1.number;
-    data.stop2 = stop2.number;
-    data.stop3 = stop3.number;
-    data.stop4 = stop4.number;
-    data.line1 = line1.number;
-    data.line2 = line2.number;
     Part {
-        value: data,
+        value: Data50 {
+            stop1: stop1.number,
+            stop2: stop2.number,
+            stop3: stop3.number,
+            stop4: stop4.number,
+            line1: line1.number,
+            line2: line2.number,
+            ..zones.value
+        },
         last: line2,
     }
 }
@@ -668,10 +613,8 @@ fn take_limits(words: &[u64], stops: Part<Data50>) -> Part<Data50>
     requires { Ready words.now 232 (stand stops.last) }
     ensures { (n : ℕ) (h : Contract) → Taken words.now 232 (drop 31 data50) (n ∷ behind h ++ take 31 (numbers50 stops.value)) (stand stops.last) (n ∷ behind h ++ numbers50 result.value) (stand result.last) }
 {
-    let c = stops.last;
-    let mut data = stops.value;
-    let groups = data.bitmap;
-    let weekly = take::number(words, BITS, c, When::Bit(groups, 11), 14);
+    let groups = stops.value.bitmap;
+    let weekly = take::number(words, BITS, stops.last, When::Bit(groups, 11), 14);
     let start_date = take::number(words, BITS, weekly, When::Bit(groups, 12), 14);
     let end_minute = take::at_most(
         words,
@@ -683,13 +626,15 @@ fn take_limits(words: &[u64], stops: Part<Data50>) -> Part<Data50>
     );
     let token = take::number(words, BITS, end_minute, When::Bit(groups, 14), 4);
     let intermodal = take::number(words, BITS, token, When::Bit(groups, 15), 4);
-    data.weekly = weekly.number;
-    data.start_date = start_date.number;
-    data.end_minute = end_minute.number;
-    data.token = token.number;
-    data.intermodal = intermodal.number;
     Part {
-        value: data,
+        value: Data50 {
+            weekly: weekly.number,
+            start_date: start_date.number,
+            end_minute: end_minute.number,
+            token: token.number,
+            intermodal: intermodal.number,
+            ..stops.value
+        },
         last: intermodal,
     }
 }
@@ -720,13 +665,10 @@ fn put_fields(draft: &mut [u64], kind: u32, c: Contract) -> Cursor
     if !agrees(kind, c) {
         return disagreed(head);
     }
-    let data = c.data;
     if kind == Contract::CARNET {
-        let d = carnet(data);
-        return put_carnet(draft, head, c.bitmap, d);
+        return put_carnet(draft, head, c.bitmap, carnet(c.data));
     }
-    let d = urban(data);
-    put_urban(draft, head, c.bitmap, d)
+    put_urban(draft, head, c.bitmap, urban(c.data))
 }
 
 // Whether the data are those that bit [6] and the type call for.
@@ -734,11 +676,10 @@ fn agrees(kind: u32, c: Contract) -> bool
     ensures { result ≡ agrees kind c }
 {
     let follow = follow(c.bitmap);
-    let data = c.data;
-    match data {
+    match c.data {
         Data::Nothing => !follow,
-        Data::Carnet(_) => follow & (kind == Contract::CARNET),
-        Data::Urban(_) => follow & (kind == Contract::URBAN),
+        Data::Carnet(_) => follow && kind == Contract::CARNET,
+        Data::Urban(_) => follow && kind == Contract::URBAN,
     }
 }
 

@@ -37,6 +37,11 @@ module _ {A : Type 0} (d : A) where
   pub named_all : (n : ℕ) (l : List A) → length l ≡ n → named d 0 n l ≡ l
   named_all n l h = named_drop 0 n l (omega arith)
 
+  -- And n elements from i on are those by name.
+  pub named_part : (i n : ℕ) (l : List A) → i + n ≤ length l → named d i n l ≡ take n (drop i l)
+  named_part i zero l h = refl
+  named_part i (suc n) l h = rw (drop-cons l i d (omega arith), named_part (suc i) n l (omega arith))
+
 pub from_all : (n : ℕ) (vals : List ℕ) → length vals ≡ n → from 0 n vals ≡ vals
 from_all n vals h = named_all 0 n vals h
 

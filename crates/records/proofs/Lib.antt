@@ -2,3 +2,4 @@ pub mod Answering
 pub mod Inverse
 pub mod Coming
 pub mod Telling
+pub mod Following

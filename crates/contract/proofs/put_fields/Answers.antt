@@ -29,7 +29,7 @@ returns-then-kind-eq-CARNET c =
     let yes : agrees c.args.kind c.args.c ≡ true = sym c.agrees.ensures ∙ c.if-not-agrees.false in
     record {
       ready = (c.put_carnet.ensures c.args.c).ready;
-      agreed = λ same. rw (kind, ← c.carnet-d.ensures) (puts_append (c.put_head-head.ensures _).puts (c.put_carnet.ensures c.args.c).puts);
+      agreed = λ same. rw (kind, ← c.carnet.ensures) (puts_append (c.put_head-head.ensures _).puts (c.put_carnet.ensures c.args.c).puts);
       opposed = λ no. let z : ◌≡◌ {A = ℕ} 0 1 = cc in absurd (omega arith);
     }
 
@@ -43,6 +43,6 @@ returns c =
     let yes : agrees c.args.kind c.args.c ≡ true = sym c.agrees.ensures ∙ c.if-not-agrees.false in
     record {
       ready = (c.put_urban.ensures c.args.c).ready;
-      agreed = λ same. rw (kind, ← c.urban-d.ensures) (puts_append (c.put_head-head.ensures _).puts (c.put_urban.ensures c.args.c).puts);
+      agreed = λ same. rw (kind, ← c.urban.ensures) (puts_append (c.put_head-head.ensures _).puts (c.put_urban.ensures c.args.c).puts);
       opposed = λ no. let z : ◌≡◌ {A = ℕ} 0 1 = cc in absurd (omega arith);
     }

@@ -1,9 +1,5 @@
-use lib.Dec.{lit≤}
 use Rattle.rows.specs.Inner.Line.{given, ◌◂◌}
 use Rattle.rows.specs.Table.Contract.{data50}
-use Rattle.contract.specs.Contract.{head_of}
-use mathlib.Core.List.{[]}
-use Rattle.rows.proofs.Running.{puts_long}
 use Rattle.contract.proofs.put_terms.Goals as goal
 
 pub returns : goal.returns
@@ -22,33 +18,3 @@ returns c = λ h. record {
       ◂ given;
   ready = c.number.ensures.ready;
 }
-
-pub number-at-requires : goal.number-at-requires
-number-at-requires c = search lit≤
-
-pub number-at-requires-2 : goal.number-at-requires-2
-number-at-requires-2 c = search lit≤
-
-pub number-at-requires-3 : goal.number-at-requires-3
-number-at-requires-3 c = search lit≤
-
-pub number-at-requires-4 : goal.number-at-requires-4
-number-at-requires-4 c = search lit≤
-
-pub number-at-requires-5 : goal.number-at-requires-5
-number-at-requires-5 c = search lit≤
-
-pub number-at-requires-6 : goal.number-at-requires-6
-number-at-requires-6 c = search lit≤
-
-pub number-at-requires-7 : goal.number-at-requires-7
-number-at-requires-7 c = search lit≤
-
-pub number-at-requires-8 : goal.number-at-requires-8
-number-at-requires-8 c = search lit≤
-
-pub number-requires : goal.number-requires
-number-requires c = search lit≤
-
-pub shape_of-draft : goal.shape_of-draft
-shape_of-draft c = puts_long (returns c (head_of [])).puts

@@ -1,17 +1,10 @@
 use Rattle.std.proofs.Common.{◌≡◌, Err, rules}
 use mathlib.Core.Path.{sym, ◌∙◌}
-use borrow.Author.Tests.{eq-eqb, ne_eqb}
 use Rattle.bits.specs.Bits.{spread}
 use Rattle.rows.specs.Inner.Standing.{stand}
 use Rattle.records.proofs.Answering.{met_none, met_one}
 use Rattle.contract.proofs.Reading.{told_refused, told_read}
 use Rattle.contract.proofs.read.Goals as goal
-
-pub returns-then-bytes-ne-BYTES : goal.returns-then-bytes-ne-BYTES
-returns-then-bytes-ne-BYTES c = rw (ne_eqb _ _ c.if-bytes-ne-BYTES.true)
-
-pub returns-then-not-known : goal.returns-then-not-known
-returns-then-not-known c = rw (eq-eqb _ _ c.if-bytes-ne-BYTES.false, sym c.known.ensures ∙ c.if-not-known.true)
 
 pub returns-in_err-met : goal.returns-in_err-met
 returns-in_err-met c =

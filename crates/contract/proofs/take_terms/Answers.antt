@@ -1,4 +1,3 @@
-use lib.Dec.{lit≤}
 use Rattle.rows.specs.Inner.Line.{taken, ◌▸◌}
 use Rattle.rows.specs.Table.Contract.{data50}
 use Rattle.contract.proofs.take_terms.Goals as goal
@@ -19,30 +18,3 @@ returns c = λ h. record {
       ▸ taken;
   ready = c.number-via.ensures.ready;
 }
-
-pub number-end_date-requires : goal.number-end_date-requires
-number-end_date-requires c = search lit≤
-
-pub number-grey_list-requires : goal.number-grey_list-requires
-number-grey_list-requires c = search lit≤
-
-pub number-chrono-requires : goal.number-chrono-requires
-number-chrono-requires c = search lit≤
-
-pub number-flag-requires : goal.number-flag-requires
-number-flag-requires c = search lit≤
-
-pub number-groups-requires : goal.number-groups-requires
-number-groups-requires c = search lit≤
-
-pub number-agent-requires : goal.number-agent-requires
-number-agent-requires c = search lit≤
-
-pub number-origin-requires : goal.number-origin-requires
-number-origin-requires c = search lit≤
-
-pub number-destination-requires : goal.number-destination-requires
-number-destination-requires c = search lit≤
-
-pub number-via-requires : goal.number-via-requires
-number-via-requires c = search lit≤

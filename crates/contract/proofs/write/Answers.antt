@@ -1,17 +1,9 @@
 use Rattle.std.proofs.Common.{◌≡◌, Err, rules}
 use mathlib.Core.Path.{refl, sym, ◌∙◌}
-use native.Mathlib.Omega.{arith}
-use borrow.Author.Tests.{eq-eqb, ne_eqb}
 use Rattle.rows.specs.Inner.Standing.{stand}
 use Rattle.records.proofs.Answering.{met_none, met_one}
 use Rattle.contract.proofs.Writing.{contract_unput, contract_written_law}
 use Rattle.contract.proofs.write.Goals as goal
-
-pub returns-then-bytes-ne-BYTES : goal.returns-then-bytes-ne-BYTES
-returns-then-bytes-ne-BYTES c = rw (ne_eqb _ _ c.if-bytes-ne-BYTES.true)
-
-pub returns-then-not-known : goal.returns-then-not-known
-returns-then-not-known c = rw (eq-eqb _ _ c.if-bytes-ne-BYTES.false, sym c.known.ensures ∙ c.if-not-known.true)
 
 pub returns-in_err-met : goal.returns-in_err-met
 returns-in_err-met c =
@@ -19,9 +11,6 @@ returns-in_err-met c =
     let one = c.in_err-met.ensures in
     let is : c.from_residual.result ≡ Err c.in_err-met.field-0.0 = search rules in
     rw (is, one) (contract_unput _ _ _ _ _ _ c.if-bytes-ne-BYTES.false there refl c.put_fields-last.ensures (met_one _ (stand c.put_fields-last.result) one))
-
-pub put-end-requires : goal.put-end-requires
-put-end-requires c = (c.put_fields-last.ensures.ready, (met_none (stand c.put_fields-last.result) c.in_ok-met.ensures, omega arith))
 
 pub returns : goal.returns
 returns c =
