@@ -1,5 +1,4 @@
 use Rattle.rows.specs.Inner.Line.{given, ◌◂◌}
-use Rattle.rows.proofs.Running.{puts_long}
 use Rattle.bip.specs.Table.{bip}
 use Rattle.bip.proofs.put_fields.Goals as goal
 
@@ -25,5 +24,3 @@ returns c =
       ready = c.number.ensures.ready;
     }
 
-pub shape_of-draft : goal.shape_of-draft
-shape_of-draft c = puts_long (returns c).puts
