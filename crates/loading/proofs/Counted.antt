@@ -1,21 +1,16 @@
 -- Tests of entries and pointers.
 use Prim.Native.Nat.{ℕ, suc, ◌+◌, ◌-◌, ◌≤◌, ◌<◌}
-use mathlib.Core.Path.{◌≡◌, refl, ap, ◌∙◌}
+use mathlib.Core.Path.{◌≡◌, refl, ap}
 use mathlib.Core.List.{List, [], ◌∷◌}
 use mathlib.Core.Bool.{Bool, true, false, ◌&&◌, ◌||◌, false≢true}
 use native.Mathlib.Omega.{arith}
 use native.Mathlib.Numerals.{add-one}
 use lib.Dec.{leb}
 use Rattle.std.specs.List.{list_any}
-use lib.ListN.{length, get_or, take, drop, length-take, drop_of_length-le}
-use lib.Seq.{drop-cons, get_or-take}
-use borrow.Author.Tests.{ltb-true, ltb-false, leb-true}
+use borrow.Author.Tests.{leb-true}
 use Rattle.rows.specs.Row.{pick}
-use Rattle.lists.specs.Entries.{counted}
-use Rattle.lists.specs.declared.list.Entry.{Entry}
-use Rattle.lists.specs.declared.list.ContractList.{ContractList}
 use Rattle.loading.specs.Blocking.{some}
-use Rattle.loading.specs.Place.{within, erasable, first_erasable}
+use Rattle.loading.specs.Place.{within}
 use Rattle.lists.specs.Tally.{bit_of}
 use Rattle.loading.specs.Inner.Tallied.{lowest_zero}
 

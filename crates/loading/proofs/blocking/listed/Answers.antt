@@ -3,7 +3,7 @@ use borrow.Author.Tests.{tests}
 use lib.Dec.{eqb}
 use lib.ListN.{take}
 use Rattle.lists.specs.declared.special.SpecialEntry.{SpecialEntry}
-use mathlib.Core.Path.{refl, ◌∙◌}
+use mathlib.Core.Path.{◌∙◌}
 use Rattle.std.proofs.lemmas.Iterator.{YieldsList-from_slice, YieldsList-from_take}
 use Rattle.std.proofs.lemmas.Iterator.Search.{any_from_yields_List}
 use Rattle.loading.proofs.Counted.{any_some}

@@ -1,4 +1,4 @@
-use Rattle.std.proofs.Common.{◌≡◌, ◌+◌, ◌-◌, ◌≤◌}
+use Rattle.std.proofs.Common.{◌≡◌, ◌+◌, ◌-◌}
 use Rattle.loading.specs.Inner.Tallied.{lowest_zero}
 use Rattle.loading.proofs.place.lowest_zero.Given as goal
 
