@@ -15,6 +15,7 @@ pub fn read_full<R: Read>(input: &mut R, bytes: &mut [u8]) -> io::Result<usize>
     ensures end { IfOk result (λ n. n < length bytes.new → IsAtEnd (R.remaining input.new)) }
     ensures fault { OnErr result ((k : ℕ) × (k ≤ length bytes.new) × Consumes (R.remaining input.old) (R.remaining input.new) (take k bytes.new)) }
 {
+    // No index counts here, but how many bytes the reader gave; read_exact does not say how many when the input ends.
     let mut done = 0;
     while done < bytes.len() {
         let n = input.read(&mut bytes[done..])?;

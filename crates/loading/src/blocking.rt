@@ -41,8 +41,7 @@ fn mark_journal(journal: &[u8], codes: &[u8], time: u64, hours: u32, marks: &mut
     ensures { Marking (events (length journal.now / 29) journal.now 0) (λ es p. some (blocks codes.now time hours p) es) marks.old marks.new result }
 {
     let n = journal.len() / BYTES;
-    let mut i = 0;
-    while i < n {
+    for i in 0..n {
         match event::read(&journal[BYTES * i..BYTES * i + BYTES]) {
             EventRead::Read(event) => {
                 let blocks = journey(event, codes) & recent(event, time, hours);
@@ -50,7 +49,6 @@ fn mark_journal(journal: &[u8], codes: &[u8], time: u64, hours: u32, marks: &mut
             }
             EventRead::Refused(refusal) => return refusal,
         }
-        i += 1;
     }
     Refusal::NONE
 }
@@ -61,13 +59,11 @@ fn mark_special(records: &[u8], list: SpecialList, marks: &mut [bool]) -> Refusa
     ensures { Marking (events (length records.now / 29) records.now 0) (λ es p. named_by_special (take list.count list.entries) p 1 es) marks.old marks.new result }
 {
     let n = records.len() / BYTES;
-    let mut i = 0;
-    while i < n {
+    for i in 0..n {
         match event::read(&records[BYTES * i..BYTES * i + BYTES]) {
             EventRead::Read(event) => mark(event.pointer, listed(list, i + 1), marks),
             EventRead::Refused(refusal) => return refusal,
         }
-        i += 1;
     }
     Refusal::NONE
 }
@@ -114,13 +110,9 @@ fn recent(event: Event, time: u64, hours: u32) -> bool
 fn listed(list: SpecialList, k: usize) -> bool
     ensures { result ≡ listed (take list.count list.entries) k }
 {
-    let mut i = 0;
-    while i < 4 {
-        let entry = list.entries[i];
-        if ((i as u32) < list.count) & (entry.pointer as usize == k) {
-            return true;
-        }
-        i += 1;
-    }
-    false
+    let n = list.count as usize;
+    list.entries
+        .iter()
+        .take(n)
+        .any(|entry| entry.pointer as usize == k)
 }

@@ -19,7 +19,7 @@ use lists::special::SpecialList;
 use records::{BYTES, LAST_DAY, LAST_MINUTE, MOST_RECORDS, Refusal};
 
 // The card, the time, and the new contract's entry.
-#[derive(Clone, Copy)]
+#[derive(Clone, Copy, PartialEq, Eq, Debug)]
 pub struct Order {
     // contract records, counter positions, special event records
     pub n: u32,
@@ -47,7 +47,7 @@ pub struct Loaded {
 }
 
 // The lengths of all that is lent.
-#[derive(Clone, Copy)]
+#[derive(Clone, Copy, PartialEq, Eq, Debug)]
 struct Lengths {
     list: usize,
     file: usize,
@@ -238,18 +238,18 @@ fn settle(list: &mut [u8], rest: Refusal, marks: &[bool], order: Order) -> Loade
     if rest.number != 0 {
         return Loaded::refused(rest);
     }
-    let pointer = place::place(read.list, marks, order);
+    let Some(pointer) = place::place(read.list, marks, order) else {
+        return Loaded::refused(Refusal::NO_POSITION);
+    };
     store(list, read.list, pointer, order)
 }
 
-// The same when the pointer is known: 9 where there is none; else the list without its entry and with the new one.
+// The same when the pointer is known: the list without its entry and with the new one.
 fn store(list: &mut [u8], old: ContractList, pointer: u32, order: Order) -> Loaded
+    requires { 1 ≤ pointer }
     ensures { (file new : List ℕ) → record { answer = result; list = list.new; file = file_after result new file }
         ≡ stored order list.old file old new pointer }
 {
-    if pointer == 0 {
-        return Loaded::refused(Refusal::NO_POSITION);
-    }
     let renewed = old
         .without(order.c, pointer)
         .with(order.c, order.entry(pointer));

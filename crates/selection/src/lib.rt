@@ -58,6 +58,7 @@ impl Selected {
 }
 
 // The contract that a gate uses, on a card with n contract records, the first c of them with counters.
+#[tactic(auto, unfolding(crate::specs::Selection::selected, crate::specs::Selection::selecting))]
 pub fn select(list: &[u8], file: &[u8], n: u32, c: u32, day: u32, operator: u32) -> Selected
     ensures { result ≡ selected list.now file.now n c day operator }
 {
@@ -82,6 +83,7 @@ pub fn select(list: &[u8], file: &[u8], n: u32, c: u32, day: u32, operator: u32)
 }
 
 // The chosen contract's record, as a part of the lent contract file; an empty part on refusal.
+#[tactic(auto, unfolding(crate::specs::Selection::part_of))]
 pub fn part(file: &[u8], selected: Selected) -> &[u8]
     ensures { result.now ≡ part_of file.now selected }
 {
@@ -96,10 +98,8 @@ fn choose(list: ContractList, file: &[u8], day: u32, operator: u32) -> Selected
 {
     let n = list.len();
     let mut best = Selected::NOBODY;
-    let mut i = 0;
-    while i < n {
-        best = better(i as u32 + 1, list.entries[i], best, file, day, operator);
-        i += 1;
+    for (i, entry) in list.entries[..n].iter().enumerate() {
+        best = better(i as u32 + 1, *entry, best, file, day, operator);
     }
     best
 }
@@ -218,6 +218,7 @@ fn data_in_force(day: u32, data: Data) -> bool
 }
 
 // Gives the entry at a position another priority: only its four bits of the lent list record change.
+#[tactic(auto, unfolding(crate::specs::Selection::changing))]
 pub fn change_priority(list: &mut [u8], n: u32, c: u32, position: u32, code: u32) -> Refusal
     ensures { record { answer = result; bytes = list.new } ≡ changing list.old n c position code }
 {

@@ -2,11 +2,6 @@ use Rattle.contract.specs.Contract.{contract_read}
 use Rattle.contract.proofs.Telling.{contract_one}
 use Rattle.selection.proofs.serves.Goals as goal
 
-pub returns-in_default : goal.returns-in_default
-returns-in_default c =
-    let read = contract_one c.read.result (contract_read c.args.entry.kind c.part-part.result.now) c.read.ensures in
-    rw (← c.part-part.ensures, ← read, c.in_default.is)
-
 pub returns-then-opens : goal.returns-then-opens
 returns-then-opens c =
     let read = contract_one c.read.result (contract_read c.args.entry.kind c.part-part.result.now) c.read.ensures in

@@ -1,4 +1,4 @@
-use Prim.Native.Nat.{◌-◌, suc}
+use Prim.Native.Nat.{suc}
 use mathlib.Core.Path.{refl}
 use mathlib.Core.Bool.{◌&&◌}
 use lib.ListN.{take}
@@ -17,6 +17,3 @@ invariant-loop-i l =
     l.initial.marks
     l.i
     l.marks
-
-abbrev pub decreases-loop-i : goal.decreases-loop-i
-decreases-loop-i l = l.n - l.i
