@@ -5,7 +5,6 @@ use lists::list::{ContractList, Entry, ListRead};
 use lists::tally::Tally;
 use records::Refusal;
 use rows::margin::Margin;
-use std::num::wrapping_add_u64;
 
 fn with(d: u64, v: u32) -> u64 {
     with_word(d, v as u64)
@@ -13,8 +12,7 @@ fn with(d: u64, v: u32) -> u64 {
 
 // 33 times the digest, and v more, modulo 2^64.
 fn with_word(d: u64, v: u64) -> u64 {
-    let d = wrapping_add_u64(d << 5, d);
-    wrapping_add_u64(d, v)
+    (d << 5).wrapping_add(d).wrapping_add(v)
 }
 
 fn of_refusal(r: Refusal) -> u64 {
@@ -36,16 +34,11 @@ pub fn of_list(read: ListRead) -> u64 {
 }
 
 fn with_entries(d: u64, list: ContractList) -> u64 {
-    let es = list.entries;
-    let d = with(d, list.count);
-    let d = with_entry(d, es[0]);
-    let d = with_entry(d, es[1]);
-    let d = with_entry(d, es[2]);
-    let d = with_entry(d, es[3]);
-    let d = with_entry(d, es[4]);
-    let d = with_entry(d, es[5]);
-    let d = with_entry(d, es[6]);
-    with_entry(d, es[7])
+    let mut d = with(d, list.count);
+    for entry in &list.entries {
+        d = with_entry(d, *entry);
+    }
+    d
 }
 
 fn with_entry(d: u64, e: Entry) -> u64 {

@@ -9,7 +9,6 @@ ghost use Rattle.std.specs.Prelude.{◌<◌};
 
 use std::io;
 use std::io::Read;
-use std::num::wrapping_add_u64;
 
 fn main(rt: HostRuntime) -> io::Result<()> {
     let mut head = [0u8; 4];
@@ -30,18 +29,17 @@ fn sum_input(from: &mut impl Read, size: usize, rounds: u32) -> io::Result<u64> 
     sum_pieces(from, &mut space[..most], size, rounds)
 }
 
-// A proved loop has to end, and nothing says that the input does: so the pieces are counted down from a number that no run uses
-// up.
+// A proved loop has to end, and nothing says that the input does: so it takes at most a number of pieces that no run uses up.
 fn sum_pieces(from: &mut impl Read, piece: &mut [u8], size: usize, rounds: u32) -> io::Result<u64>
     requires { 0 < size }
 {
-    let mut sum = 0;
-    let mut got = piece.len();
-    let mut pieces = u64::MAX;
-    while 0 < pieces && 0 < got {
-        got = input::read_full(from, piece)?;
-        sum = wrapping_add_u64(sum, all_rounds(&piece[..got], size, rounds));
-        pieces -= 1;
+    let mut sum = 0u64;
+    for _ in 0..u64::MAX {
+        let got = input::read_full(from, piece)?;
+        if got == 0 {
+            break;
+        }
+        sum = sum.wrapping_add(all_rounds(&piece[..got], size, rounds));
     }
     Ok(sum)
 }
@@ -50,11 +48,9 @@ fn sum_pieces(from: &mut impl Read, piece: &mut [u8], size: usize, rounds: u32) 
 fn all_rounds(piece: &[u8], size: usize, rounds: u32) -> u64
     requires { 0 < size }
 {
-    let mut sum = 0;
-    let mut i = 0;
-    while i < rounds {
-        sum = wrapping_add_u64(sum, one_round(piece, size));
-        i += 1;
+    let mut sum = 0u64;
+    for _ in 0..rounds {
+        sum = sum.wrapping_add(one_round(piece, size));
     }
     sum
 }
@@ -62,11 +58,9 @@ fn all_rounds(piece: &[u8], size: usize, rounds: u32) -> u64
 fn one_round(piece: &[u8], size: usize) -> u64
     requires { 0 < size }
 {
-    let mut sum = 0;
-    let mut from = 0;
-    while size <= piece.len() - from {
-        sum = wrapping_add_u64(sum, units::answer(&piece[from..from + size]));
-        from += size;
+    let mut sum = 0u64;
+    for unit in piece.chunks_exact(size) {
+        sum = sum.wrapping_add(units::answer(unit));
     }
     sum
 }

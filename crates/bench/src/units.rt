@@ -111,7 +111,7 @@ fn list_again(lent: &[u8]) -> u64 {
         return digest::of(read.refusal, 0);
     }
     let refusal = list::write(&mut out, N, C, read.list);
-    digest::of(refusal, one(out[3]))
+    digest::of(refusal, u32::from(out[3]))
 }
 
 fn contract_again(lent: &[u8], kind: u32) -> u64 {
@@ -119,7 +119,7 @@ fn contract_again(lent: &[u8], kind: u32) -> u64 {
     match contract::read(lent, kind) {
         ContractRead::Read(c) => {
             let refusal = contract::write(&mut out, kind, c);
-            digest::of(refusal, one(out[3]))
+            digest::of(refusal, u32::from(out[3]))
         }
         ContractRead::Refused(refusal) => digest::of(refusal, 0),
     }
@@ -132,7 +132,7 @@ fn special_again(lent: &[u8]) -> u64 {
         return digest::of(read.refusal, 0);
     }
     let refusal = special::write(&mut out, S, read.list);
-    digest::of(refusal, one(out[3]))
+    digest::of(refusal, u32::from(out[3]))
 }
 
 fn event_again(lent: &[u8]) -> u64 {
@@ -140,7 +140,7 @@ fn event_again(lent: &[u8]) -> u64 {
     match event::read(lent) {
         EventRead::Read(e) => {
             let refusal = event::write(&mut out, e);
-            digest::of(refusal, one(out[3]))
+            digest::of(refusal, u32::from(out[3]))
         }
         EventRead::Refused(refusal) => digest::of(refusal, 0),
     }
@@ -151,7 +151,7 @@ fn environment_again(lent: &[u8]) -> u64 {
     match environment::read(lent) {
         EnvironmentRead::Read(e) => {
             let refusal = environment::write(&mut out, e);
-            digest::of(refusal, one(out[3]))
+            digest::of(refusal, u32::from(out[3]))
         }
         EnvironmentRead::Refused(refusal) => digest::of(refusal, 0),
     }
@@ -164,7 +164,7 @@ fn holder_again(lent: &[u8]) -> u64 {
         return digest::of(read.refusal, 0);
     }
     let refusal = holder::write(&mut out, read.holder);
-    digest::of(refusal, one(out[3]))
+    digest::of(refusal, u32::from(out[3]))
 }
 
 fn bip_again(lent: &[u8]) -> u64 {
@@ -172,7 +172,7 @@ fn bip_again(lent: &[u8]) -> u64 {
     match bip::read(lent) {
         BipRead::Read(b) => {
             let refusal = bip::write(&mut out, b);
-            digest::of(refusal, one(out[3]))
+            digest::of(refusal, u32::from(out[3]))
         }
         BipRead::Refused(refusal) => digest::of(refusal, 0),
     }
@@ -197,7 +197,7 @@ fn select(lent: &[u8]) -> u64 {
         return 0;
     }
     let day = two(lent[261], lent[262]);
-    let operator = one(lent[263]);
+    let operator = u32::from(lent[263]);
     let chosen = selection::select(&lent[0..29], &lent[29..261], N, C, day, operator);
     digest::of(chosen.refusal, chosen.pointer)
 }
@@ -210,8 +210,8 @@ fn load(lent: &[u8]) -> u64 {
     }
     let mut list = [0u8; 29];
     let mut file = [0u8; 232];
-    copy(&lent[0..29], &mut list);
-    copy(&lent[29..261], &mut file);
+    list.copy_from_slice(&lent[0..29]);
+    file.copy_from_slice(&lent[29..261]);
     let order = order(&lent[435..444]);
     let loaded = loading::load(
         &mut list,
@@ -233,8 +233,8 @@ fn load_and_select(lent: &[u8]) -> u64 {
     }
     let mut list = [0u8; 29];
     let mut file = [0u8; 232];
-    copy(&lent[0..29], &mut list);
-    copy(&lent[29..261], &mut file);
+    list.copy_from_slice(&lent[0..29]);
+    file.copy_from_slice(&lent[29..261]);
     let order = order(&lent[435..444]);
     loading::load(
         &mut list,
@@ -270,8 +270,8 @@ fn pass_within(lent: &[u8], space: &mut [u8], twice: bool) -> u64
     }
     let mut list = [0u8; 29];
     let journal = &mut space[..size];
-    copy(&lent[0..29], &mut list);
-    copy(&lent[268..], journal);
+    list.copy_from_slice(&lent[0..29]);
+    journal.copy_from_slice(&lent[268..]);
     let passage = passage(&lent[261..268]);
     let passed = passage::pass(&mut list, &lent[29..261], journal, passage);
     if !twice {
@@ -290,10 +290,10 @@ fn order(words: &[u8]) -> Order
         s: S,
         day: two(words[0], words[1]),
         minute: two(words[2], words[3]),
-        hours: one(words[4]),
-        key: one(words[5]),
-        kind: one(words[6]),
-        priority: one(words[7]),
+        hours: u32::from(words[4]),
+        key: u32::from(words[5]),
+        kind: u32::from(words[6]),
+        priority: u32::from(words[7]),
         has_network: false,
         network: 0,
         counter: words[8] == 1,
@@ -308,28 +308,13 @@ fn passage(words: &[u8]) -> Passage
         c: C,
         day: two(words[0], words[1]),
         minute: two(words[2], words[3]),
-        operator: one(words[4]),
-        code: one(words[5]),
-        provider: one(words[6]),
+        operator: u32::from(words[4]),
+        code: u32::from(words[5]),
+        provider: u32::from(words[6]),
     }
 }
 
 // A number of two bytes, high byte first.
 pub fn two(high: u8, low: u8) -> u32 {
-    high as u32 * 256 + low as u32
-}
-
-// A number of one byte.
-fn one(byte: u8) -> u32 {
-    byte as u32
-}
-
-fn copy(from: &[u8], to: &mut [u8])
-    requires { length from.now ≡ length to.old }
-{
-    let mut i = 0;
-    while i < to.len() {
-        to[i] = from[i];
-        i += 1;
-    }
+    u32::from(u16::from_be_bytes([high, low]))
 }
