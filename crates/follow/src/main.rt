@@ -6,8 +6,7 @@ mod say;
 
 use lab::state::State;
 use lab::{layouts, run};
-use lines::scan;
-use lines::scan::BYTES;
+use lines::scan::{BYTES, Words};
 use std::io;
 
 // How many contract records the card of a contract list has.
@@ -17,47 +16,36 @@ const N: u32 = 8;
 const MOST: usize = 116;
 
 fn main(rt: HostRuntime) -> io::Result<()> {
-    let mut space = [0u8; 8192];
-    let n = input::read_full(&mut rt.stdin(), &mut space)?;
-    let line = first_line(&space[..n]);
-    let mut bytes = [0u8; BYTES];
-    let given = scan::bytes(line, scan::request(line), &mut bytes);
-    let n = given.number as usize;
-    if scan::ends(line, given) {
-        choose(&rt, line, &bytes[..n])
-    } else {
-        say::usage(&rt)
+    let mut input = [0; 8192];
+    let mut record = [0; BYTES];
+    let n = input::read_full(&mut rt.stdin(), &mut input)?;
+    let (structure, words) = Words::of(first_line(&input[..n]));
+    match take_record(words, &mut record) {
+        Some(record) => choose(&rt, structure, record),
+        None => say::usage(&rt),
     }
 }
 
-fn first_line<'a>(input: &'a [u8]) -> &'a [u8] {
-    let mut i = 0;
-    while i < input.len() {
-        if input[i] == b'\n' {
-            return &input[..i];
-        }
-        i += 1;
-    }
-    input
+fn first_line(input: &[u8]) -> &[u8] {
+    input.split(|letter| *letter == b'\n').next().unwrap_or(&[])
 }
 
-fn choose(rt: &impl Print, line: &[u8], bytes: &[u8]) -> io::Result<()> {
-    if scan::begins(line, b"environment ") {
-        follow(rt, &layouts::environment(), bytes)
-    } else if scan::begins(line, b"holder ") {
-        follow(rt, &layouts::holder(), bytes)
-    } else if scan::begins(line, b"event ") {
-        follow(rt, &layouts::event(), bytes)
-    } else if scan::begins(line, b"special ") {
-        follow(rt, &layouts::special_list(), bytes)
-    } else if scan::begins(line, b"list ") {
-        follow(rt, &layouts::contract_list(), bytes)
-    } else if scan::begins(line, b"contract.42 ") {
-        follow(rt, &layouts::carnet(), bytes)
-    } else if scan::begins(line, b"contract.50 ") {
-        follow(rt, &layouts::urban(), bytes)
-    } else {
-        say::usage(rt)
+fn take_record<'a>(mut words: Words, space: &'a mut [u8; BYTES]) -> Option<&'a [u8]> {
+    let record = words.bytes(space)?;
+    words.ends()?;
+    Some(record)
+}
+
+fn choose(rt: &impl Print, structure: &[u8], bytes: &[u8]) -> io::Result<()> {
+    match structure {
+        b"environment" => follow(rt, &layouts::environment(), bytes),
+        b"holder" => follow(rt, &layouts::holder(), bytes),
+        b"event" => follow(rt, &layouts::event(), bytes),
+        b"special" => follow(rt, &layouts::special_list(), bytes),
+        b"list" => follow(rt, &layouts::contract_list(), bytes),
+        b"contract.42" => follow(rt, &layouts::carnet(), bytes),
+        b"contract.50" => follow(rt, &layouts::urban(), bytes),
+        _ => say::usage(rt),
     }
 }
 
@@ -69,16 +57,17 @@ fn follow(rt: &impl Print, rows: &[u64], bytes: &[u8]) -> io::Result<()> {
     let room = 8 * bytes.len() as u32;
     let mut state = State::begin(rows, N, room);
     say::begin(rt, state)?;
-    let mut place = 0;
-    while place < room && state.why == 0 && state.row < rows.len() {
+    for place in 0..room {
+        if state.why != 0 || rows.len() <= state.row {
+            break;
+        }
         let bit = run::bit_at(bytes, place);
         let next = state.step(rows, bit);
         say::step(rt, rows, state, bit, next)?;
         state = next;
-        place += 1;
     }
     if state.why == 0 {
-        say::margin(rt, bytes, place, room)
+        say::margin(rt, bytes, state.at, room)
     } else {
         say::refused(rt, state)
     }

@@ -4,38 +4,18 @@ ghost use Rattle.std.specs.Prelude.{◌<◌, length};
 use lab::state::State;
 use lab::{row, run};
 use std::io;
-use std::num::wrapping_add_u32;
-
-fn text(rt: &impl Print, text: &[u8]) -> io::Result<()> {
-    rt.write_all(text)
-}
-
-fn number(rt: &impl Print, number: u64) -> io::Result<()> {
-    print!(rt; "{number}")
-}
 
 pub fn usage(rt: &impl Print) -> io::Result<()> {
-    text(
-        rt,
-        b"wanted: environment, holder, event, special, list, contract.42 or contract.50, a space, and the record's digits\n",
+    println!(rt;
+        "wanted: environment, holder, event, special, list, contract.42 or contract.50, a space, and the record's digits"
     )
-}
-
-// A number of several.
-fn next_number(rt: &impl Print, n: u32) -> io::Result<()> {
-    text(rt, b" ")?;
-    number(rt, n as u64)
 }
 
 // Before the first bit.
 pub fn begin(rt: &impl Print, state: State) -> io::Result<()> {
-    text(rt, b"room ")?;
-    number(rt, state.room as u64)?;
-    text(rt, b", most ")?;
-    number(rt, state.most as u64)?;
-    text(rt, b"; first is")?;
+    print!(rt; "room {}, most {}; first is", state.room, state.most)?;
     field(rt, state)?;
-    text(rt, b"\n")
+    println!(rt; "")
 }
 
 // A bit, the numbers of its field with it, and behind the field's last bit the next one that is there.
@@ -43,60 +23,36 @@ pub fn step(rt: &impl Print, rows: &[u64], before: State, one: bool, after: Stat
     requires { before.row < length rows.now }
 {
     let k = before.row;
-    text(rt, b"bit ")?;
-    number(rt, before.at as u64)?;
-    if one {
-        text(rt, b" is 1: field ")?;
-    } else {
-        text(rt, b" is 0: field ")?;
-    }
-    number(rt, k as u64)?;
-    text(rt, b" is now")?;
-    numbers(
-        rt,
-        rows[k],
-        before.first,
-        before.start,
-        before.at,
-        &after.numbers,
-    )?;
+    print!(rt; "bit {} is {}: field {k} is now", before.at, u32::from(one))?;
+    numbers(rt, rows[k], before, &after.numbers)?;
     if after.row == rows.len() {
-        text(rt, b"; no field is left")?;
+        print!(rt; "; no field is left")?;
     } else if after.row != k {
-        text(rt, b"; next is")?;
+        print!(rt; "; next is")?;
         field(rt, after)?;
     }
-    text(rt, b"\n")
+    println!(rt; "")
 }
 
 // The field that a state is in.
 fn field(rt: &impl Print, state: State) -> io::Result<()> {
-    text(rt, b" field ")?;
-    number(rt, state.row as u64)?;
-    text(rt, b", from bit ")?;
-    number(rt, state.start as u64)?;
-    text(rt, b" and slot ")?;
-    number(rt, state.first as u64)
+    print!(rt;
+        " field {}, from bit {} and slot {}",
+        state.row, state.start, state.first
+    )
 }
 
 // The numbers of a row's field; of a text only the letters up to the bit.
-fn numbers(
-    rt: &impl Print,
-    row: u64,
-    first: u32,
-    start: u32,
-    at: u32,
-    numbers: &[u32],
-) -> io::Result<()> {
+fn numbers(rt: &impl Print, row: u64, before: State, numbers: &[u32]) -> io::Result<()> {
+    let boxes = row::boxes(row) as usize;
     let pace = pace(row);
-    let mut slot = first as usize;
-    let mut place = start;
-    let mut left = row::boxes(row);
-    while slot < numbers.len() && 0 < left && place <= at {
-        next_number(rt, numbers[slot])?;
-        slot += 1;
-        place = wrapping_add_u32(place, pace);
-        left -= 1;
+    let mut place = before.start;
+    for number in numbers.iter().skip(before.first as usize).take(boxes) {
+        if before.at < place {
+            break;
+        }
+        print!(rt; " {number}")?;
+        place = place.wrapping_add(pace);
     }
     Ok(())
 }
@@ -110,31 +66,20 @@ fn pace(row: u64) -> u32 {
 }
 
 pub fn refused(rt: &impl Print, state: State) -> io::Result<()> {
-    text(rt, b"refused with ")?;
-    number(rt, state.why as u64)?;
-    text(rt, b", place ")?;
-    number(rt, state.start as u64)?;
-    text(rt, b", field ")?;
-    number(rt, state.row as u64)?;
-    text(rt, b"\n")
+    println!(rt;
+        "refused with {}, place {}, field {}",
+        state.why, state.start, state.row
+    )
 }
 
 // The margin, from a place on.
 pub fn margin(rt: &impl Print, bytes: &[u8], from: u32, room: u32) -> io::Result<()> {
-    text(rt, b"margin from bit ")?;
-    number(rt, from as u64)?;
-    text(rt, b", its ones:")?;
-    let mut none = true;
-    let mut place = from;
-    while place < room {
-        if run::bit_at(bytes, place) {
-            next_number(rt, place)?;
-            none = false;
-        }
-        place += 1;
+    print!(rt; "margin from bit {from}, its ones:")?;
+    if (from..room).all(|place| !run::bit_at(bytes, place)) {
+        print!(rt; " none")?;
     }
-    if none {
-        text(rt, b" none")?;
+    for place in (from..room).filter(|place| run::bit_at(bytes, *place)) {
+        print!(rt; " {place}")?;
     }
-    text(rt, b"\n")
+    println!(rt; "")
 }

@@ -1,67 +1,50 @@
 // list.read and list.write.
-use crate::scan::Scan;
-use crate::{answer, scan};
+use crate::answer::Answer;
+use crate::scan::Words;
 use lists::list;
 use lists::list::{ContractList, ListRead};
 use lists::tally::{Positions, Tally};
 
-pub fn read(line: &[u8], from: Scan, record: &[u8], out: &mut [u8]) -> usize {
-    let contracts = scan::number(line, from);
-    let counters = scan::number(line, contracts);
-    if !scan::ends(line, counters) {
-        return 0;
-    }
-    tell(out, list::read(record, contracts.number, counters.number))
+pub fn read(mut words: Words, record: &[u8], out: &mut Answer) -> Option<()> {
+    let contracts = words.number()?;
+    let counters = words.number()?;
+    words.ends()?;
+    tell(out, list::read(record, contracts, counters));
+    Some(())
 }
 
 // The answer to a reading.
-pub fn tell(out: &mut [u8], read: ListRead) -> usize {
-    let refusal = read.refusal;
-    let list = read.list;
-    let end = answer::refusal(out, refusal);
-    if refusal.number == 0 {
-        return answer_list(out, end, list);
+pub fn tell(out: &mut Answer, read: ListRead) {
+    out.refusal(read.refusal);
+    if read.refusal.number == 0 {
+        let Tally { counter, plain } = read.list.tally;
+        out.numbers(&read.list.numbers());
+        out.numbers(&[counter.used, plain.used, counter.spent, plain.spent]);
     }
-    end
-}
-
-fn answer_list(out: &mut [u8], end: usize, list: ContractList) -> usize {
-    let counter = list.tally.counter;
-    let plain = list.tally.plain;
-    let last = answer::numbers(out, end, &list.numbers());
-    answer::numbers(
-        out,
-        last,
-        &[counter.used, plain.used, counter.spent, plain.spent],
-    )
 }
 
 // The tally to write is the line's.
-pub fn write(line: &[u8], from: Scan, record: &mut [u8], out: &mut [u8]) -> usize {
-    let contracts = scan::number(line, from);
-    let counters = scan::number(line, contracts);
-    let mut numbers = [0u32; 49];
-    let mut counts = [0u32; 4];
-    let behind = scan::numbers(line, counters, &mut numbers);
-    let last = scan::numbers(line, behind, &mut counts);
-    if !scan::ends(line, last) {
-        return 0;
-    }
-    let mut list = ContractList::of(counters.number, numbers);
-    list.tally = tally_of(counts);
-    let refusal = list::write(record, contracts.number, counters.number, list);
-    answer::written(out, refusal, record)
+pub fn write(mut words: Words, record: &mut [u8], out: &mut Answer) -> Option<()> {
+    let contracts = words.number()?;
+    let counters = words.number()?;
+    let mut list = ContractList::of(counters, words.numbers()?);
+    list.tally = take_tally(&mut words)?;
+    words.ends()?;
+    let refusal = list::write(record, contracts, counters, list);
+    out.written(refusal, record);
+    Some(())
 }
 
-fn tally_of(counts: [u32; 4]) -> Tally {
-    Tally {
+fn take_tally(words: &mut Words) -> Option<Tally> {
+    let [counter_used, plain_used, counter_spent, plain_spent] = words.numbers::<4>()?;
+    Some(Tally {
         counter: Positions {
-            used: counts[0],
-            spent: counts[2],
+            used: counter_used,
+            spent: counter_spent,
         },
         plain: Positions {
-            used: counts[1],
-            spent: counts[3],
+            used: plain_used,
+            spent: plain_spent,
         },
-    }
+    })
 }

@@ -1,51 +1,47 @@
 // holder.read and holder.write.
-use crate::scan::Scan;
-use crate::{answer, margins, scan};
+use crate::answer::Answer;
+use crate::margins;
+use crate::scan::{LARGEST_LETTER, Words};
 use holder::{Holder, HolderRead};
 
-pub fn read(line: &[u8], from: Scan, area: &[u8], out: &mut [u8]) -> usize {
-    if !scan::ends(line, from) {
-        return 0;
-    }
-    tell(out, holder::read(area))
+pub fn read(words: Words, area: &[u8], out: &mut Answer) -> Option<()> {
+    words.ends()?;
+    tell(out, holder::read(area));
+    Some(())
 }
 
 // The answer to a reading.
-pub fn tell(out: &mut [u8], read: HolderRead) -> usize {
-    let refusal = read.refusal;
-    let holder = read.holder;
-    let end = answer::refusal(out, refusal);
-    if refusal.number == 0 {
-        return answer_holder(out, end, holder);
+pub fn tell(out: &mut Answer, read: HolderRead) {
+    out.refusal(read.refusal);
+    if read.refusal.number == 0 {
+        let mut margin = [0; margins::AREA_BYTES];
+        margins::fill(&mut margin, &read.holder.margin);
+        out.numbers(&read.holder.numbers());
+        out.bytes(&margin);
     }
-    end
 }
 
-fn answer_holder(out: &mut [u8], end: usize, h: Holder) -> usize {
-    let margin = h.margin;
-    let mut bytes = [0u8; margins::AREA_BYTES];
-    margins::bytes_of(&margin, &mut bytes);
-    let last = answer::numbers(out, end, &h.numbers());
-    answer::bytes(out, last, &bytes)
-}
-
-pub fn write(line: &[u8], from: Scan, area: &mut [u8], out: &mut [u8]) -> usize {
-    let mut numbers = [0u32; 111];
-    let mut margin = [0u64; 15];
-    let behind = take_numbers(line, from, &mut numbers);
-    let last = margins::take_words(line, behind, margins::AREA_BYTES, &mut margin);
-    if !scan::ends(line, last) {
-        return 0;
-    }
+pub fn write(mut words: Words, area: &mut [u8], out: &mut Answer) -> Option<()> {
+    let numbers = take_numbers(&mut words)?;
+    let margin = margins::take_bits(&mut words, margins::AREA_BYTES)?;
+    words.ends()?;
     let refusal = holder::write(area, Holder::of(numbers, margin));
-    answer::written(out, refusal, area)
+    out.written(refusal, area);
+    Some(())
+}
+
+fn take_numbers(words: &mut Words) -> Option<[u32; 111]> {
+    let mut numbers = [0; 111];
+    for (slot, n) in numbers.iter_mut().enumerate() {
+        *n = words.at_most(most(slot))?;
+    }
+    Some(numbers)
 }
 
 // Surname and forename are letters, and birth place and birth name.
-fn take_numbers(line: &[u8], from: Scan, numbers: &mut [u32]) -> Scan {
-    let bitmaps = scan::part(line, from, u32::MAX, numbers, 0, 2);
-    let names = scan::part(line, bitmaps, scan::LARGEST_LETTER, numbers, 2, 36);
-    let birth = scan::part(line, names, u32::MAX, numbers, 36, 38);
-    let texts = scan::part(line, birth, scan::LARGEST_LETTER, numbers, 38, 78);
-    scan::part(line, texts, u32::MAX, numbers, 78, 111)
+fn most(slot: usize) -> u32 {
+    match slot {
+        2..36 | 38..78 => LARGEST_LETTER,
+        _ => u32::MAX,
+    }
 }

@@ -1,201 +1,107 @@
 // The words of a request, taken one after the other.
 ghost use Rattle.std.specs.Prelude.{◌≤◌, length};
-ghost use Rattle.io.specs.Counts.{IsPrefixLen};
-
-// How far a line is taken. After a word that is not as wanted nothing more is.
-#[derive(Clone, Copy)]
-pub struct Scan {
-    pub at: usize,
-    pub ok: bool,
-    // what the last word spells: a number, or how many bytes
-    pub number: u32,
-}
-
-// The place of a word, without the space before it. Where there is none it is empty.
-#[derive(Clone, Copy)]
-struct Word {
-    from: usize,
-    to: usize,
-}
-
-impl Scan {
-    pub const LOST: Scan = Scan {
-        at: 0,
-        ok: false,
-        number: 0,
-    };
-}
-
-pub const LARGEST_LETTER: u32 = 255;
 
 // Room for the bytes of any word: two letters a byte.
 pub const BYTES: usize = 4096;
 
-// What a text that is no number spells, and one that is no bytes.
-const NO_NUMBER: u64 = 4294967296;
+pub const LARGEST_LETTER: u32 = 255;
 
-const NO_BYTES: usize = 4097;
-
-// Behind the first word, the request's own.
-pub fn request(line: &[u8]) -> Scan {
-    Scan {
-        at: word_end(line, 0),
-        ok: true,
-        number: 0,
-    }
+// The words that are left of a line, each with the space before it.
+#[derive(Clone, Copy)]
+pub struct Words<'a> {
+    rest: &'a [u8],
 }
 
-pub fn begins(line: &[u8], word: &[u8]) -> bool {
-    if line.len() < word.len() {
-        return false;
+impl<'a> Words<'a> {
+    // A line's first word, the request's own, and those behind it.
+    pub fn of(line: &'a [u8]) -> (&'a [u8], Words<'a>) {
+        let (word, rest) = line.split_at(word_end(line));
+        (word, Words { rest })
     }
-    let mut i = 0;
-    while i < word.len() {
-        if line[i] != word[i] {
-            return false;
+
+    // The next word, without the space before it.
+    pub fn word(&mut self) -> Option<&'a [u8]> {
+        let text = self.rest.strip_prefix(b" ")?;
+        let (word, rest) = text.split_at(word_end(text));
+        self.rest = rest;
+        Some(word)
+    }
+
+    pub fn number(&mut self) -> Option<u32> {
+        number(self.word()?)
+    }
+
+    pub fn at_most(&mut self, most: u32) -> Option<u32> {
+        self.number().filter(|n| *n <= most)
+    }
+
+    pub fn flag(&mut self) -> Option<bool> {
+        Some(self.at_most(1)? == 1)
+    }
+
+    pub fn numbers<const N: usize>(&mut self) -> Option<[u32; N]> {
+        let mut numbers = [0; N];
+        self.fill(&mut numbers)?;
+        Some(numbers)
+    }
+
+    // As many numbers as the lent ones.
+    pub fn fill(&mut self, numbers: &mut [u32]) -> Option<()> {
+        for n in numbers.iter_mut() {
+            *n = self.number()?;
         }
-        i += 1;
+        Some(())
     }
-    true
+
+    // The bytes that the next word spells, in lent space.
+    pub fn bytes<'b>(&mut self, space: &'b mut [u8; BYTES]) -> Option<&'b mut [u8]> {
+        let word = self.word()?;
+        let n = byte_count(word)?;
+        let bytes = space.get_mut(..n)?;
+        if n == 0 || text::bytes(word, bytes) {
+            Some(bytes)
+        } else {
+            None
+        }
+    }
+
+    // Nothing is left.
+    pub fn ends(&self) -> Option<()> {
+        self.rest.is_empty().then_some(())
+    }
 }
 
-fn next(line: &[u8], scan: Scan) -> Word
-    ensures { (result.from ≤ result.to) × (result.to ≤ length line.now) }
+// The place of the first space, or the end.
+fn word_end(text: &[u8]) -> usize
+    ensures { result ≤ length text.now }
 {
-    let at = scan.at;
-    if scan.ok {
-        if at < line.len() {
-            if line[at] == b' ' {
-                return Word {
-                    from: at + 1,
-                    to: word_end(line, at + 1),
-                };
-            }
-        }
+    text.iter()
+        .position(|letter| *letter == b' ')
+        .unwrap_or(text.len())
+}
+
+// The number that a word spells.
+pub fn number(word: &[u8]) -> Option<u32> {
+    if word.is_empty() {
+        return None;
     }
-    Word { from: 0, to: 0 }
+    word.iter()
+        .try_fold(0u32, |n, letter| with_digit(n, *letter))
 }
 
-// The place of the next space, or the end.
-fn word_end(line: &[u8], from: usize) -> usize
-    requires { from ≤ length line.now }
-    ensures { (from ≤ result) × (result ≤ length line.now) }
-{
-    let mut i = from;
-    while i < line.len() {
-        if line[i] == b' ' {
-            return i;
-        }
-        i += 1;
-    }
-    i
-}
-
-pub fn number(line: &[u8], scan: Scan) -> Scan {
-    at_most(line, scan, u32::MAX)
-}
-
-pub fn at_most(line: &[u8], scan: Scan, most: u32) -> Scan {
-    let word = next(line, scan);
-    let from = word.from;
-    let to = word.to;
-    let n = spelt(&line[from..to]);
-    if n <= most as u64 {
-        Scan {
-            at: to,
-            ok: true,
-            number: n as u32,
-        }
-    } else {
-        Scan::LOST
+fn with_digit(n: u32, letter: u8) -> Option<u32> {
+    match letter {
+        b'0'..=b'9' => n.checked_mul(10)?.checked_add((letter - b'0').into()),
+        _ => None,
     }
 }
 
-// As many numbers as the lent ones.
-pub fn numbers(line: &[u8], scan: Scan, out: &mut [u32]) -> Scan {
-    let n = out.len();
-    part(line, scan, u32::MAX, out, 0, n)
-}
-
-// The lent numbers from one place up to another, each at most so much.
-pub fn part(line: &[u8], scan: Scan, most: u32, out: &mut [u32], from: usize, to: usize) -> Scan {
-    let mut last = scan;
-    let mut i = from;
-    while i < out.len() && i < to {
-        last = at_most(line, last, most);
-        out[i] = last.number;
-        i += 1;
-    }
-    last
-}
-
-fn spelt(text: &[u8]) -> u64 {
-    if text.len() == 0 {
-        return NO_NUMBER;
-    }
-    let mut n = 0;
-    let mut i = 0;
-    while i < text.len() {
-        n = with_digit(n, text[i]);
-        i += 1;
-    }
-    n
-}
-
-fn with_digit(n: u64, digit: u8) -> u64 {
-    if NO_NUMBER <= n {
-        return n;
-    }
-    match digit {
-        48..=57 => n * 10 + (digit - 48) as u64,
-        _ => NO_NUMBER,
-    }
-}
-
-pub fn bytes(line: &[u8], scan: Scan, out: &mut [u8; BYTES]) -> Scan
-    ensures { IsPrefixLen result.number out.new }
-{
-    let word = next(line, scan);
-    let from = word.from;
-    let to = word.to;
-    let n = filled(&line[from..to], out);
-    if n <= BYTES {
-        Scan {
-            at: to,
-            ok: true,
-            number: n as u32,
-        }
-    } else {
-        Scan::LOST
-    }
-}
-
-// How many bytes a text spells, and those bytes; more than there can be where it spells none.
-fn filled(text: &[u8], out: &mut [u8]) -> usize {
-    if text.len() == 1 {
-        if text[0] == b'-' {
-            return 0;
-        }
-    }
-    let n = text.len() / 2;
-    if n == 0 {
-        return NO_BYTES;
-    }
-    if out.len() < n {
-        return NO_BYTES;
-    }
-    if text::bytes(text, &mut out[..n]) {
-        n
-    } else {
-        NO_BYTES
-    }
-}
-
-// Nothing is left.
-pub fn ends(line: &[u8], scan: Scan) -> bool {
-    if scan.ok {
-        scan.at == line.len()
-    } else {
-        false
+// How many bytes a word spells, if it spells any: `-` is none of them.
+fn byte_count(word: &[u8]) -> Option<usize> {
+    match word {
+        [] => None,
+        b"-" => Some(0),
+        [_] => None,
+        _ => Some(word.len() / 2),
     }
 }

@@ -3,91 +3,75 @@
 
 mod requests;
 
-use lines::answer;
+ghost use Rattle.std.specs.Prelude.{◌≤◌};
+
+use lines::answer::Answer;
 use std::io;
 use std::io::Read;
 
-// What is taken of the line that comes, and whether there may be more.
-#[derive(Clone, Copy)]
-struct Input {
-    n: usize,
-    more: bool,
+// One letter more than a request has, by which a longer line shows.
+const ROOM: usize = 8193;
+
+// The line that comes, as far as it is taken. A letter past the last place is dropped.
+#[derive(Drop)]
+struct Line {
+    letters: [u8; ROOM],
+    end: usize,
+    ghost within: { end ≤ 8193 },
 }
 
 fn main(rt: HostRuntime) -> io::Result<()> {
-    // one letter more than a request has, by which a longer line shows
-    let mut space = [0u8; 8193];
-    let line: &mut [u8] = &mut space;
-    let n = take_pieces(&rt, &mut rt.stdin(), line)?;
-    if 0 < n {
-        reply(&rt, first(line, n))?;
+    let mut input = rt.stdin();
+    let mut piece = [0; 4096];
+    let mut line = Line {
+        letters: [0; ROOM],
+        end: 0,
+    };
+    // A proved loop has to end, and nothing says that the input does: no run comes to so many pieces.
+    for _ in 0..u64::MAX {
+        let n = input.read(&mut piece)?;
+        if n == 0 {
+            break;
+        }
+        line.take(&rt, &piece[..n])?;
     }
-    Ok(())
+    line.finish(&rt)
 }
 
-// How many letters the last line has, which lacks its line feed. A proved loop has to end, and nothing says that the input
-// does: so the pieces are counted down from a number that no run uses up.
-fn take_pieces(rt: &impl Print, from: &mut impl Read, line: &mut [u8]) -> io::Result<usize> {
-    let mut input = Input { n: 0, more: true };
-    let mut pieces = u64::MAX;
-    while 0 < pieces && input.more {
-        input = take_piece(rt, from, line, input.n)?;
-        pieces -= 1;
+impl Line {
+    // Replies to each line that ends in a piece of the input.
+    fn take(&mut self, rt: &impl Print, piece: &[u8]) -> io::Result<()> {
+        for letter in piece {
+            self.take_letter(rt, *letter)?;
+        }
+        Ok(())
     }
-    Ok(input.n)
-}
 
-fn take_piece(
-    rt: &impl Print,
-    from: &mut impl Read,
-    line: &mut [u8],
-    n: usize,
-) -> io::Result<Input> {
-    let mut piece = [0u8; 4096];
-    let count = from.read(&mut piece)?;
-    Ok(Input {
-        n: take_letters(rt, &piece[..count], line, n)?,
-        more: 0 < count,
-    })
-}
-
-// How many letters the line has then that is not at its end yet.
-fn take_letters(rt: &impl Print, piece: &[u8], line: &mut [u8], n: usize) -> io::Result<usize> {
-    let mut end = n;
-    let mut i = 0;
-    while i < piece.len() {
-        end = take_letter(rt, line, end, piece[i])?;
-        i += 1;
+    fn take_letter(&mut self, rt: &impl Print, letter: u8) -> io::Result<()> {
+        if letter == b'\n' {
+            reply(rt, &self.letters[..self.end])?;
+            self.end = 0;
+        } else if let Some(place) = self.letters.get_mut(self.end) {
+            *place = letter;
+            self.end += 1;
+        }
+        Ok(())
     }
-    Ok(end)
-}
 
-// Replies to the line where it ends, and else keeps the letter.
-fn take_letter(rt: &impl Print, line: &mut [u8], n: usize, letter: u8) -> io::Result<usize> {
-    if letter == b'\n' {
-        reply(rt, first(line, n))?;
-        return Ok(0);
+    // The last line may lack its line feed.
+    fn finish(&self, rt: &impl Print) -> io::Result<()> {
+        if self.end == 0 {
+            return Ok(());
+        }
+        reply(rt, &self.letters[..self.end])
     }
-    Ok(answer::letter(line, n, letter))
-}
-
-// The first n letters, or all where there are fewer.
-fn first<'a>(text: &'a [u8], n: usize) -> &'a [u8] {
-    if n < text.len() { &text[..n] } else { text }
 }
 
 fn reply(rt: &impl Print, line: &[u8]) -> io::Result<()> {
-    let mut space = [0u8; 16384];
-    let out: &mut [u8] = &mut space;
-    let answered = answer_to(line, out);
-    let end = answer::letter(out, answered, b'\n');
-    rt.write_all(first(out, end))
-}
-
-fn answer_to(line: &[u8], out: &mut [u8]) -> usize {
-    let end = requests::answer(line, out);
-    if end == 0 {
-        return answer::text(out, 0, b"! line");
+    let mut answer = Answer::new();
+    if requests::answer(line, &mut answer).is_none() {
+        answer.text(b"! line");
     }
-    end
+    answer.text(b"\n");
+    rt.write_all(answer.line())
 }

@@ -1,44 +1,34 @@
 // apply, find and join.
-use lines::scan::{BYTES, Scan};
-use lines::{answer, scan};
+use lines::answer::Answer;
+use lines::scan::{BYTES, Words};
 
-pub fn apply(line: &[u8], from: Scan, record: &mut [u8], out: &mut [u8]) -> usize {
-    let mut writes = [0u8; BYTES];
-    let second = scan::bytes(line, from, &mut writes);
-    if !scan::ends(line, second) {
-        return 0;
-    }
-    let n = second.number as usize;
-    let refusal = gate::apply(record, &writes[..n]);
-    answer::written(out, refusal, record)
+pub fn apply(mut words: Words, record: &mut [u8], out: &mut Answer) -> Option<()> {
+    let mut writes = [0; BYTES];
+    let writes = words.bytes(&mut writes)?;
+    words.ends()?;
+    let refusal = gate::apply(record, writes);
+    out.written(refusal, record);
+    Some(())
 }
 
-pub fn find(line: &[u8], from: Scan, present: &[u8], out: &mut [u8]) -> usize {
-    let mut wanted = [0u8; BYTES];
-    let mut write = [0u8; BYTES];
-    let second = scan::bytes(line, from, &mut wanted);
-    let third = scan::bytes(line, second, &mut write);
-    if !scan::ends(line, third) {
-        return 0;
-    }
-    let n = second.number as usize;
-    let k = third.number as usize;
-    let part = &mut write[..k];
-    let refusal = gate::find(present, &wanted[..n], part);
-    answer::written(out, refusal, part)
+pub fn find(mut words: Words, present: &[u8], out: &mut Answer) -> Option<()> {
+    let mut wanted = [0; BYTES];
+    let mut write = [0; BYTES];
+    let wanted = words.bytes(&mut wanted)?;
+    let write = words.bytes(&mut write)?;
+    words.ends()?;
+    let refusal = gate::find(present, wanted, write);
+    out.written(refusal, write);
+    Some(())
 }
 
-pub fn join(line: &[u8], from: Scan, a: &[u8], out: &mut [u8]) -> usize {
-    let mut b = [0u8; BYTES];
-    let mut write = [0u8; BYTES];
-    let second = scan::bytes(line, from, &mut b);
-    let third = scan::bytes(line, second, &mut write);
-    if !scan::ends(line, third) {
-        return 0;
-    }
-    let n = second.number as usize;
-    let k = third.number as usize;
-    let part = &mut write[..k];
-    let refusal = gate::join(a, &b[..n], part);
-    answer::written(out, refusal, part)
+pub fn join(mut words: Words, a: &[u8], out: &mut Answer) -> Option<()> {
+    let mut b = [0; BYTES];
+    let mut write = [0; BYTES];
+    let b = words.bytes(&mut b)?;
+    let write = words.bytes(&mut write)?;
+    words.ends()?;
+    let refusal = gate::join(a, b, write);
+    out.written(refusal, write);
+    Some(())
 }

@@ -1,8 +1,0 @@
-use Rattle.std.proofs.Common.{length, ◌≡◌}
-use Rattle.replay.proofs.take_pieces.Given as goal
-
-abbrev pub invariant-loop-pieces : goal.invariant-loop-pieces
-invariant-loop-pieces g l = length l.line ≡ length l.initial.line
-
-abbrev pub decreases-loop-pieces : goal.decreases-loop-pieces
-decreases-loop-pieces g l = l.pieces
