@@ -1,7 +1,7 @@
 // A digest: one number that every part of an answer goes into.
-use bip::{BipContract, BipRead, Extension, Weekdays};
-use contract::{Contract, ContractRead, Data, Data42, Data50};
-use lists::list::{ContractList, Entry, ListRead};
+use bip::{BipContract, Extension, Weekdays};
+use contract::{Contract, Data, Data42, Data50};
+use lists::list::{ContractList, Entry};
 use lists::tally::Tally;
 use records::Refusal;
 use rows::margin::Margin;
@@ -15,22 +15,32 @@ fn with_word(d: u64, v: u64) -> u64 {
     (d << 5).wrapping_add(d).wrapping_add(v)
 }
 
+fn of_three(number: u32, place: u32, field: u32) -> u64 {
+    with(with(with(1, number), place), field)
+}
+
 fn of_refusal(r: Refusal) -> u64 {
-    with(with(with(1, r.number), r.place), r.field)
+    of_three(r.why.number(), r.place, r.field)
 }
 
-// Of a refusal and a number.
-pub fn of(refusal: Refusal, number: u32) -> u64 {
-    with(of_refusal(refusal), number)
+// Of an accepted answer, before its value.
+fn of_accepted() -> u64 {
+    of_three(0, 0, 0)
 }
 
-pub fn of_list(read: ListRead) -> u64 {
-    let d = of_refusal(read.refusal);
-    if read.refusal.number != 0 {
-        return d;
+// Of an answer and a number of its value, zero where it is refused.
+pub fn of(answer: Result<u32, Refusal>) -> u64 {
+    match answer {
+        Ok(number) => with(of_accepted(), number),
+        Err(refusal) => with(of_refusal(refusal), 0),
     }
-    let tally = read.list.tally;
-    with_tally(with_entries(d, read.list), tally)
+}
+
+pub fn of_list(read: Result<ContractList, Refusal>) -> u64 {
+    match read {
+        Ok(list) => with_tally(with_entries(of_accepted(), list), list.tally),
+        Err(refusal) => of_refusal(refusal),
+    }
 }
 
 fn with_entries(d: u64, list: ContractList) -> u64 {
@@ -59,10 +69,10 @@ fn with_tally(d: u64, tally: Tally) -> u64 {
     with(d, plain.spent)
 }
 
-pub fn of_contract(read: ContractRead) -> u64 {
+pub fn of_contract(read: Result<Contract, Refusal>) -> u64 {
     match read {
-        ContractRead::Read(contract) => with_contract(of_refusal(Refusal::NONE), contract),
-        ContractRead::Refused(refusal) => of_refusal(refusal),
+        Ok(contract) => with_contract(of_accepted(), contract),
+        Err(refusal) => of_refusal(refusal),
     }
 }
 
@@ -147,10 +157,10 @@ fn with_urban(d: u64, c: Data50) -> u64 {
     with(d, c.intermodal)
 }
 
-pub fn of_bip(read: BipRead) -> u64 {
+pub fn of_bip(read: Result<BipContract, Refusal>) -> u64 {
     match read {
-        BipRead::Read(contract) => with_bip(of_refusal(Refusal::NONE), contract),
-        BipRead::Refused(refusal) => of_refusal(refusal),
+        Ok(contract) => with_bip(of_accepted(), contract),
+        Err(refusal) => of_refusal(refusal),
     }
 }
 

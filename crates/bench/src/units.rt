@@ -2,13 +2,10 @@
 ghost use Rattle.std.specs.Prelude.{◌≡◌, ◌<◌, ◌≤◌, length};
 
 use crate::digest;
-use bip::BipRead;
-use contract::{Contract, ContractRead};
+use contract::Contract;
 use lists::{list, special};
 use loading::Order;
 use passage::Passage;
-use records::environment::EnvironmentRead;
-use records::event::EventRead;
 use records::{Refusal, environment, event};
 
 // How many contract, counter and special event records the card has.
@@ -53,142 +50,104 @@ pub fn answer(unit: &[u8]) -> u64
 // told. So is this function: inlined, it would be in the way of the first three.
 fn other_answer(what: u8, lent: &[u8]) -> u64 {
     match what {
-        3 => special_read(lent),
-        4 => event_read(lent),
-        5 => environment_read(lent),
-        6 => holder_read(lent),
-        7 => list_again(lent),
-        8 => contract_again(lent, Contract::CARNET),
-        9 => contract_again(lent, Contract::URBAN),
-        10 => special_again(lent),
-        11 => event_again(lent),
-        12 => environment_again(lent),
-        13 => holder_again(lent),
+        3 => digest::of(special_read(lent)),
+        4 => digest::of(event_read(lent)),
+        5 => digest::of(environment_read(lent)),
+        6 => digest::of(holder_read(lent)),
+        7 => digest::of(list_again(lent)),
+        8 => digest::of(contract_again(lent, Contract::CARNET)),
+        9 => digest::of(contract_again(lent, Contract::URBAN)),
+        10 => digest::of(special_again(lent)),
+        11 => digest::of(event_again(lent)),
+        12 => digest::of(environment_again(lent)),
+        13 => digest::of(holder_again(lent)),
         14 => select(lent),
         15 => load(lent),
         16 => load_and_select(lent),
-        19 => bip_read(lent),
-        20 => bip_again(lent),
-        21 => bip_twice(lent),
+        19 => digest::of_bip(bip::read(lent)),
+        20 => digest::of(bip_again(lent)),
+        21 => digest::of(bip_twice(lent)),
         _ => 0,
     }
 }
 
-fn special_read(lent: &[u8]) -> u64 {
-    let read = special::read(lent, S);
-    let list = read.list;
-    digest::of(read.refusal, list.entries[0].pointer)
+fn special_read(lent: &[u8]) -> Result<u32, Refusal> {
+    let list = special::read(lent, S)?;
+    Ok(list.entries[0].pointer)
 }
 
-fn event_read(lent: &[u8]) -> u64 {
-    match event::read(lent) {
-        EventRead::Read(e) => digest::of(Refusal::NONE, e.pointer),
-        EventRead::Refused(refusal) => digest::of(refusal, 0),
-    }
+fn event_read(lent: &[u8]) -> Result<u32, Refusal> {
+    let event = event::read(lent)?;
+    Ok(event.pointer)
 }
 
-fn environment_read(lent: &[u8]) -> u64 {
-    match environment::read(lent) {
-        EnvironmentRead::Read(e) => digest::of(Refusal::NONE, e.card_status),
-        EnvironmentRead::Refused(refusal) => digest::of(refusal, 0),
-    }
+fn environment_read(lent: &[u8]) -> Result<u32, Refusal> {
+    let environment = environment::read(lent)?;
+    Ok(environment.card_status)
 }
 
-fn holder_read(lent: &[u8]) -> u64 {
-    let read = holder::read(lent);
-    digest::of(read.refusal, read.holder.bitmap)
+fn holder_read(lent: &[u8]) -> Result<u32, Refusal> {
+    let holder = holder::read(lent)?;
+    Ok(holder.bitmap)
 }
 
-fn bip_read(lent: &[u8]) -> u64 {
-    digest::of_bip(bip::read(lent))
-}
-
-// Each of the next reads a record and, where it is accepted, writes it again; the digest is that of the writing.
-fn list_again(lent: &[u8]) -> u64 {
+// Each of the next reads a record and, where it is accepted, writes it again; the answer is that of the writing.
+fn list_again(lent: &[u8]) -> Result<u32, Refusal> {
     let mut out = [0u8; 29];
-    let read = list::read(lent, N, C);
-    if read.refusal.number != 0 {
-        return digest::of(read.refusal, 0);
-    }
-    let refusal = list::write(&mut out, N, C, read.list);
-    digest::of(refusal, u32::from(out[3]))
+    let list = list::read(lent, N, C)?;
+    list::write(&mut out, N, C, list)?;
+    Ok(u32::from(out[3]))
 }
 
-fn contract_again(lent: &[u8], kind: u32) -> u64 {
+fn contract_again(lent: &[u8], kind: u32) -> Result<u32, Refusal> {
     let mut out = [0u8; 29];
-    match contract::read(lent, kind) {
-        ContractRead::Read(c) => {
-            let refusal = contract::write(&mut out, kind, c);
-            digest::of(refusal, u32::from(out[3]))
-        }
-        ContractRead::Refused(refusal) => digest::of(refusal, 0),
-    }
+    let contract = contract::read(lent, kind)?;
+    contract::write(&mut out, kind, contract)?;
+    Ok(u32::from(out[3]))
 }
 
-fn special_again(lent: &[u8]) -> u64 {
+fn special_again(lent: &[u8]) -> Result<u32, Refusal> {
     let mut out = [0u8; 29];
-    let read = special::read(lent, S);
-    if read.refusal.number != 0 {
-        return digest::of(read.refusal, 0);
-    }
-    let refusal = special::write(&mut out, S, read.list);
-    digest::of(refusal, u32::from(out[3]))
+    let list = special::read(lent, S)?;
+    special::write(&mut out, S, list)?;
+    Ok(u32::from(out[3]))
 }
 
-fn event_again(lent: &[u8]) -> u64 {
+fn event_again(lent: &[u8]) -> Result<u32, Refusal> {
     let mut out = [0u8; 29];
-    match event::read(lent) {
-        EventRead::Read(e) => {
-            let refusal = event::write(&mut out, e);
-            digest::of(refusal, u32::from(out[3]))
-        }
-        EventRead::Refused(refusal) => digest::of(refusal, 0),
-    }
+    let event = event::read(lent)?;
+    event::write(&mut out, event)?;
+    Ok(u32::from(out[3]))
 }
 
-fn environment_again(lent: &[u8]) -> u64 {
+fn environment_again(lent: &[u8]) -> Result<u32, Refusal> {
     let mut out = [0u8; 29];
-    match environment::read(lent) {
-        EnvironmentRead::Read(e) => {
-            let refusal = environment::write(&mut out, e);
-            digest::of(refusal, u32::from(out[3]))
-        }
-        EnvironmentRead::Refused(refusal) => digest::of(refusal, 0),
-    }
+    let environment = environment::read(lent)?;
+    environment::write(&mut out, environment)?;
+    Ok(u32::from(out[3]))
 }
 
-fn holder_again(lent: &[u8]) -> u64 {
+fn holder_again(lent: &[u8]) -> Result<u32, Refusal> {
     let mut out = [0u8; 116];
-    let read = holder::read(lent);
-    if read.refusal.number != 0 {
-        return digest::of(read.refusal, 0);
-    }
-    let refusal = holder::write(&mut out, read.holder);
-    digest::of(refusal, u32::from(out[3]))
+    let holder = holder::read(lent)?;
+    holder::write(&mut out, holder)?;
+    Ok(u32::from(out[3]))
 }
 
-fn bip_again(lent: &[u8]) -> u64 {
+fn bip_again(lent: &[u8]) -> Result<u32, Refusal> {
     let mut out = [0u8; 29];
-    match bip::read(lent) {
-        BipRead::Read(b) => {
-            let refusal = bip::write(&mut out, b);
-            digest::of(refusal, u32::from(out[3]))
-        }
-        BipRead::Refused(refusal) => digest::of(refusal, 0),
-    }
+    let contract = bip::read(lent)?;
+    bip::write(&mut out, contract)?;
+    Ok(u32::from(out[3]))
 }
 
 // The same, and then once more on what was written: a second call of the writer. Inlined, it would be left out but for the byte that is
 // looked at.
-fn bip_twice(lent: &[u8]) -> u64 {
+fn bip_twice(lent: &[u8]) -> Result<u32, Refusal> {
     let mut out = [0u8; 29];
-    match bip::read(lent) {
-        BipRead::Read(b) => {
-            bip::write(&mut out, b);
-            bip_again(&out)
-        }
-        BipRead::Refused(refusal) => digest::of(refusal, 0),
-    }
+    let contract = bip::read(lent)?;
+    let _ = bip::write(&mut out, contract);
+    bip_again(&out)
 }
 
 // Contract list and file, day (two bytes), operator.
@@ -199,7 +158,7 @@ fn select(lent: &[u8]) -> u64 {
     let day = two(lent[261], lent[262]);
     let operator = u32::from(lent[263]);
     let chosen = selection::select(&lent[0..29], &lent[29..261], N, C, day, operator);
-    digest::of(chosen.refusal, chosen.pointer)
+    digest::of(chosen.map(|chosen| chosen.pointer))
 }
 
 // Contract list and file, special event list and records, the new contract; day and minute (two bytes each), hours, key,
@@ -223,7 +182,7 @@ fn load(lent: &[u8]) -> u64 {
         &lent[444..476],
         order,
     );
-    digest::of(loaded.refusal, loaded.pointer)
+    digest::of(loaded)
 }
 
 // The same, and then selection on the card that loading leaves, for the operator whose number is the new contract's key.
@@ -236,7 +195,7 @@ fn load_and_select(lent: &[u8]) -> u64 {
     list.copy_from_slice(&lent[0..29]);
     file.copy_from_slice(&lent[29..261]);
     let order = order(&lent[435..444]);
-    loading::load(
+    let _ = loading::load(
         &mut list,
         &mut file,
         &lent[261..290],
@@ -247,7 +206,7 @@ fn load_and_select(lent: &[u8]) -> u64 {
         order,
     );
     let chosen = selection::select(&list, &file, N, C, order.day, order.key);
-    digest::of(chosen.refusal, chosen.pointer)
+    digest::of(chosen.map(|chosen| chosen.pointer))
 }
 
 // Contract list and file; day and minute (two bytes each), operator, code, provider; the journal. Twice: once more on the card that the
@@ -275,9 +234,9 @@ fn pass_within(lent: &[u8], space: &mut [u8], twice: bool) -> u64
     let passage = passage(&lent[261..268]);
     let passed = passage::pass(&mut list, &lent[29..261], journal, passage);
     if !twice {
-        return digest::of(passed.refusal, passed.pointer);
+        return digest::of(passed.map(|passed| passed.pointer));
     }
-    passage::pass(&mut list, &lent[29..261], journal, passage);
+    let _ = passage::pass(&mut list, &lent[29..261], journal, passage);
     other_answer(7, &list)
 }
 

@@ -5,6 +5,7 @@ ghost use Rattle.std.specs.Prelude.{◌≤◌, ◌<◌, length};
 
 use lists::list;
 use lists::list::{ContractList, Entry};
+use records::Why;
 use std::io;
 
 // The most input that is taken.
@@ -18,7 +19,7 @@ const C: u32 = 4;
 // One answer for each line; for too long an input, one line that says so.
 pub fn dump(rt: &impl Print, input: &[u8]) -> io::Result<()> {
     if MOST < input.len() {
-        say_line(rt, 0, 1, 0)
+        say_line(rt, 0, Why::WrongLength.number(), 0)
     } else {
         dump_lines(rt, input)
     }
@@ -37,12 +38,15 @@ fn dump_lines(rt: &impl Print, input: &[u8]) -> io::Result<()>
 // A line that is no record is refused as one of the wrong length.
 fn dump_line(rt: &impl Print, line: &[u8], number: u32) -> io::Result<()> {
     let mut bytes = [0u8; 29];
-    if text::bytes(line, &mut bytes) {
-        let read = list::read(&bytes, N, C);
-        say_line(rt, number, read.refusal.number, read.list.count)?;
-        say_entries(rt, read.list)
-    } else {
-        say_line(rt, number, 1, 0)
+    if !text::bytes(line, &mut bytes) {
+        return say_line(rt, number, Why::WrongLength.number(), 0);
+    }
+    match list::read(&bytes, N, C) {
+        Ok(list) => {
+            say_line(rt, number, 0, list.count)?;
+            say_entries(rt, list)
+        }
+        Err(refusal) => say_line(rt, number, refusal.why.number(), 0),
     }
 }
 

@@ -58,7 +58,7 @@ fn follow(rt: &impl Print, rows: &[u64], bytes: &[u8]) -> io::Result<()> {
     let mut state = State::begin(rows, N, room);
     say::begin(rt, state)?;
     for place in 0..room {
-        if state.why != 0 || rows.len() <= state.row {
+        if state.why.is_some() || rows.len() <= state.row {
             break;
         }
         let bit = run::bit_at(bytes, place);
@@ -66,7 +66,7 @@ fn follow(rt: &impl Print, rows: &[u64], bytes: &[u8]) -> io::Result<()> {
         say::step(rt, rows, state, bit, next)?;
         state = next;
     }
-    if state.why == 0 {
+    if state.why.is_none() {
         say::margin(rt, bytes, state.at, room)
     } else {
         say::refused(rt, state)

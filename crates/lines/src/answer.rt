@@ -52,25 +52,24 @@ impl Answer {
         }
     }
 
-    // The beginning of every answer.
-    pub fn refusal(&mut self, refusal: Refusal) {
-        let Refusal {
-            number,
-            place,
-            field,
-        } = refusal;
-        let _ = write!(self, "{number} {place} {field}");
-    }
-
-    // The answer to a read that is accepted.
-    pub fn accepted(&mut self, values: &[u32]) {
-        self.text(b"0 0 0");
-        self.numbers(values);
+    // The beginning of every answer: three zeros, or why it is refused, the place and the field. Gives back the value.
+    pub fn told<T>(&mut self, answer: Result<T, Refusal>) -> Option<T> {
+        match answer {
+            Ok(value) => {
+                self.text(b"0 0 0");
+                Some(value)
+            }
+            Err(refusal) => {
+                let Refusal { why, place, field } = refusal;
+                let _ = write!(self, "{} {place} {field}", why.number());
+                None
+            }
+        }
     }
 
     // The answer to a write.
-    pub fn written(&mut self, refusal: Refusal, bytes: &[u8]) {
-        self.refusal(refusal);
+    pub fn written(&mut self, answer: Result<(), Refusal>, bytes: &[u8]) {
+        self.told(answer);
         self.bytes(bytes);
     }
 }

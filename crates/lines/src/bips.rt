@@ -2,7 +2,8 @@
 use crate::answer::Answer;
 use crate::scan;
 use crate::scan::Words;
-use bip::{BipContract, BipRead, Extension, Weekdays};
+use bip::{BipContract, Extension, Weekdays};
+use records::Refusal;
 
 pub fn read(words: Words, record: &[u8], out: &mut Answer) -> Option<()> {
     words.ends()?;
@@ -11,15 +12,14 @@ pub fn read(words: Words, record: &[u8], out: &mut Answer) -> Option<()> {
 }
 
 // The answer to a reading.
-fn tell(out: &mut Answer, read: BipRead) {
-    match read {
-        BipRead::Read(value) => answer_contract(out, value),
-        BipRead::Refused(refusal) => out.refusal(refusal),
+fn tell(out: &mut Answer, read: Result<BipContract, Refusal>) {
+    if let Some(value) = out.told(read) {
+        answer_contract(out, value);
     }
 }
 
 fn answer_contract(out: &mut Answer, b: BipContract) {
-    out.accepted(&[
+    out.numbers(&[
         b.company,
         b.format,
         b.rfu,
@@ -68,8 +68,8 @@ pub fn write(mut words: Words, record: &mut [u8], out: &mut Answer) -> Option<()
         mac: words.number()?,
     };
     words.ends()?;
-    let refusal = bip::write(record, b);
-    out.written(refusal, record);
+    let answer = bip::write(record, b);
+    out.written(answer, record);
     Some(())
 }
 

@@ -2,8 +2,9 @@
 use crate::answer::Answer;
 use crate::scan::Words;
 use lists::list;
-use lists::list::{ContractList, ListRead};
+use lists::list::ContractList;
 use lists::tally::{Positions, Tally};
+use records::Refusal;
 
 pub fn read(mut words: Words, record: &[u8], out: &mut Answer) -> Option<()> {
     let contracts = words.number()?;
@@ -14,11 +15,10 @@ pub fn read(mut words: Words, record: &[u8], out: &mut Answer) -> Option<()> {
 }
 
 // The answer to a reading.
-pub fn tell(out: &mut Answer, read: ListRead) {
-    out.refusal(read.refusal);
-    if read.refusal.number == 0 {
-        let Tally { counter, plain } = read.list.tally;
-        out.numbers(&read.list.numbers());
+pub fn tell(out: &mut Answer, read: Result<ContractList, Refusal>) {
+    if let Some(list) = out.told(read) {
+        let Tally { counter, plain } = list.tally;
+        out.numbers(&list.numbers());
         out.numbers(&[counter.used, plain.used, counter.spent, plain.spent]);
     }
 }
@@ -30,8 +30,8 @@ pub fn write(mut words: Words, record: &mut [u8], out: &mut Answer) -> Option<()
     let mut list = ContractList::of(counters, words.numbers()?);
     list.tally = take_tally(&mut words)?;
     words.ends()?;
-    let refusal = list::write(record, contracts, counters, list);
-    out.written(refusal, record);
+    let answer = list::write(record, contracts, counters, list);
+    out.written(answer, record);
     Some(())
 }
 

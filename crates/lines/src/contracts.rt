@@ -2,7 +2,8 @@
 use crate::answer::Answer;
 use crate::margins;
 use crate::scan::Words;
-use contract::{Contract, ContractRead, Data, Data42, Data50};
+use contract::{Contract, Data, Data42, Data50};
+use records::Refusal;
 
 pub fn read(mut words: Words, record: &[u8], out: &mut Answer) -> Option<()> {
     let kind = words.number()?;
@@ -12,14 +13,11 @@ pub fn read(mut words: Words, record: &[u8], out: &mut Answer) -> Option<()> {
 }
 
 // The answer to a reading.
-pub fn tell(out: &mut Answer, read: ContractRead) {
-    match read {
-        ContractRead::Read(value) => {
-            out.accepted(&value.head_numbers());
-            answer_data(out, value.data);
-            margins::answer(out, value.margin);
-        }
-        ContractRead::Refused(refusal) => out.refusal(refusal),
+pub fn tell(out: &mut Answer, read: Result<Contract, Refusal>) {
+    if let Some(value) = out.told(read) {
+        out.numbers(&value.head_numbers());
+        answer_data(out, value.data);
+        margins::answer(out, value.margin);
     }
 }
 
@@ -43,8 +41,8 @@ pub fn write(mut words: Words, record: &mut [u8], out: &mut Answer) -> Option<()
     let data = take_data(&mut words)?;
     let margin = margins::take(&mut words)?;
     words.ends()?;
-    let refusal = contract::write(record, kind, Contract::of_head(head, data, margin));
-    out.written(refusal, record);
+    let answer = contract::write(record, kind, Contract::of_head(head, data, margin));
+    out.written(answer, record);
     Some(())
 }
 

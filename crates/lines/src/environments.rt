@@ -2,8 +2,8 @@
 use crate::answer::Answer;
 use crate::margins;
 use crate::scan::Words;
-use records::environment;
-use records::environment::{Environment, EnvironmentRead};
+use records::environment::Environment;
+use records::{Refusal, environment};
 
 pub fn read(words: Words, record: &[u8], out: &mut Answer) -> Option<()> {
     words.ends()?;
@@ -12,13 +12,10 @@ pub fn read(words: Words, record: &[u8], out: &mut Answer) -> Option<()> {
 }
 
 // The answer to a reading.
-pub fn tell(out: &mut Answer, read: EnvironmentRead) {
-    match read {
-        EnvironmentRead::Read(value) => {
-            out.accepted(&value.numbers());
-            margins::answer(out, value.margin);
-        }
-        EnvironmentRead::Refused(refusal) => out.refusal(refusal),
+pub fn tell(out: &mut Answer, read: Result<Environment, Refusal>) {
+    if let Some(value) = out.told(read) {
+        out.numbers(&value.numbers());
+        margins::answer(out, value.margin);
     }
 }
 
@@ -26,7 +23,7 @@ pub fn write(mut words: Words, record: &mut [u8], out: &mut Answer) -> Option<()
     let numbers = words.numbers()?;
     let margin = margins::take(&mut words)?;
     words.ends()?;
-    let refusal = environment::write(record, Environment::of(numbers, margin));
-    out.written(refusal, record);
+    let answer = environment::write(record, Environment::of(numbers, margin));
+    out.written(answer, record);
     Some(())
 }

@@ -2,8 +2,8 @@
 use crate::answer::Answer;
 use crate::margins;
 use crate::scan::Words;
-use records::event;
-use records::event::{Event, EventRead};
+use records::event::Event;
+use records::{Refusal, event};
 
 // The slot of element [17], which no line has.
 const EMPLOYEE: usize = 20;
@@ -15,15 +15,12 @@ pub fn read(words: Words, record: &[u8], out: &mut Answer) -> Option<()> {
 }
 
 // The answer to a reading.
-pub fn tell(out: &mut Answer, read: EventRead) {
-    match read {
-        EventRead::Read(value) => {
-            let numbers = value.numbers();
-            out.accepted(&numbers[..EMPLOYEE]);
-            out.numbers(&numbers[EMPLOYEE + 1..]);
-            margins::answer(out, value.margin);
-        }
-        EventRead::Refused(refusal) => out.refusal(refusal),
+pub fn tell(out: &mut Answer, read: Result<Event, Refusal>) {
+    if let Some(value) = out.told(read) {
+        let numbers = value.numbers();
+        out.numbers(&numbers[..EMPLOYEE]);
+        out.numbers(&numbers[EMPLOYEE + 1..]);
+        margins::answer(out, value.margin);
     }
 }
 
@@ -33,7 +30,7 @@ pub fn write(mut words: Words, record: &mut [u8], out: &mut Answer) -> Option<()
     words.fill(&mut numbers[EMPLOYEE + 1..])?;
     let margin = margins::take(&mut words)?;
     words.ends()?;
-    let refusal = event::write(record, Event::of(numbers, margin));
-    out.written(refusal, record);
+    let answer = event::write(record, Event::of(numbers, margin));
+    out.written(answer, record);
     Some(())
 }

@@ -2,7 +2,8 @@
 use crate::answer::Answer;
 use crate::margins;
 use crate::scan::{LARGEST_LETTER, Words};
-use holder::{Holder, HolderRead};
+use holder::Holder;
+use records::Refusal;
 
 pub fn read(words: Words, area: &[u8], out: &mut Answer) -> Option<()> {
     words.ends()?;
@@ -11,12 +12,11 @@ pub fn read(words: Words, area: &[u8], out: &mut Answer) -> Option<()> {
 }
 
 // The answer to a reading.
-pub fn tell(out: &mut Answer, read: HolderRead) {
-    out.refusal(read.refusal);
-    if read.refusal.number == 0 {
+pub fn tell(out: &mut Answer, read: Result<Holder, Refusal>) {
+    if let Some(holder) = out.told(read) {
         let mut margin = [0; margins::AREA_BYTES];
-        margins::fill(&mut margin, &read.holder.margin);
-        out.numbers(&read.holder.numbers());
+        margins::fill(&mut margin, &holder.margin);
+        out.numbers(&holder.numbers());
         out.bytes(&margin);
     }
 }
@@ -25,8 +25,8 @@ pub fn write(mut words: Words, area: &mut [u8], out: &mut Answer) -> Option<()> 
     let numbers = take_numbers(&mut words)?;
     let margin = margins::take_bits(&mut words, margins::AREA_BYTES)?;
     words.ends()?;
-    let refusal = holder::write(area, Holder::of(numbers, margin));
-    out.written(refusal, area);
+    let answer = holder::write(area, Holder::of(numbers, margin));
+    out.written(answer, area);
     Some(())
 }
 

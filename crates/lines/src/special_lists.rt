@@ -2,7 +2,8 @@
 use crate::answer::Answer;
 use crate::scan::Words;
 use lists::special;
-use lists::special::{SpecialList, SpecialRead};
+use lists::special::SpecialList;
+use records::Refusal;
 
 pub fn read(mut words: Words, record: &[u8], out: &mut Answer) -> Option<()> {
     let records = words.number()?;
@@ -12,10 +13,9 @@ pub fn read(mut words: Words, record: &[u8], out: &mut Answer) -> Option<()> {
 }
 
 // The answer to a reading.
-pub fn tell(out: &mut Answer, read: SpecialRead) {
-    out.refusal(read.refusal);
-    if read.refusal.number == 0 {
-        out.numbers(&read.list.numbers());
+pub fn tell(out: &mut Answer, read: Result<SpecialList, Refusal>) {
+    if let Some(list) = out.told(read) {
+        out.numbers(&list.numbers());
     }
 }
 
@@ -23,7 +23,7 @@ pub fn write(mut words: Words, record: &mut [u8], out: &mut Answer) -> Option<()
     let records = words.number()?;
     let numbers = words.numbers()?;
     words.ends()?;
-    let refusal = special::write(record, records, SpecialList::of(numbers));
-    out.written(refusal, record);
+    let answer = special::write(record, records, SpecialList::of(numbers));
+    out.written(answer, record);
     Some(())
 }

@@ -3,6 +3,7 @@ use lines::answer::Answer;
 use lines::scan::{BYTES, Words};
 use loading::Order;
 use passage::Passage;
+use records::Refusal;
 use selection::Selected;
 
 pub fn select(mut words: Words, list: &[u8], out: &mut Answer) -> Option<()> {
@@ -19,9 +20,11 @@ pub fn select(mut words: Words, list: &[u8], out: &mut Answer) -> Option<()> {
     Some(())
 }
 
-fn tell(out: &mut Answer, selected: Selected) {
-    out.refusal(selected.refusal);
-    out.numbers(&[selected.position, selected.pointer, selected.priority]);
+fn tell(out: &mut Answer, selected: Result<Selected, Refusal>) {
+    match out.told(selected) {
+        Some(chosen) => out.numbers(&[chosen.position, chosen.pointer, chosen.priority]),
+        None => out.numbers(&[0; 3]),
+    }
 }
 
 pub fn passage(mut words: Words, list: &mut [u8], out: &mut Answer) -> Option<()> {
@@ -56,8 +59,8 @@ pub fn priority(mut words: Words, list: &mut [u8], out: &mut Answer) -> Option<(
     let position = words.number()?;
     let code = words.number()?;
     words.ends()?;
-    let refusal = selection::change_priority(list, n, c, position, code);
-    out.written(refusal, list);
+    let answer = selection::change_priority(list, n, c, position, code);
+    out.written(answer, list);
     Some(())
 }
 
@@ -77,8 +80,8 @@ pub fn load(mut words: Words, list: &mut [u8], out: &mut Answer) -> Option<()> {
     let order = take_order(&mut words)?;
     words.ends()?;
     let loaded = loading::load(list, file, special, journal, records, new, codes, order);
-    out.refusal(loaded.refusal);
-    out.number(loaded.pointer);
+    let pointer = out.told(loaded).unwrap_or(0);
+    out.number(pointer);
     out.bytes(list);
     out.bytes(file);
     Some(())

@@ -6,8 +6,8 @@ pub fn apply(mut words: Words, record: &mut [u8], out: &mut Answer) -> Option<()
     let mut writes = [0; BYTES];
     let writes = words.bytes(&mut writes)?;
     words.ends()?;
-    let refusal = gate::apply(record, writes);
-    out.written(refusal, record);
+    let answer = gate::apply(record, writes);
+    out.written(answer, record);
     Some(())
 }
 
@@ -17,8 +17,8 @@ pub fn find(mut words: Words, present: &[u8], out: &mut Answer) -> Option<()> {
     let wanted = words.bytes(&mut wanted)?;
     let write = words.bytes(&mut write)?;
     words.ends()?;
-    let refusal = gate::find(present, wanted, write);
-    out.written(refusal, write);
+    let answer = gate::find(present, wanted, write);
+    out.written(answer, write);
     Some(())
 }
 
@@ -28,7 +28,7 @@ pub fn join(mut words: Words, a: &[u8], out: &mut Answer) -> Option<()> {
     let b = words.bytes(&mut b)?;
     let write = words.bytes(&mut write)?;
     words.ends()?;
-    let refusal = gate::join(a, b, write);
-    out.written(refusal, write);
+    let answer = gate::join(a, b, write);
+    out.written(answer, write);
     Some(())
 }
