@@ -1,18 +1,11 @@
 use Prim.Native.Nat.{◌+◌, ◌*◌, ◌/◌, ◌≤◌, max}
 use mathlib.Core.Path.{◌≡◌, ◌∙◌}
 use native.Mathlib.Omega.{arith}
-use lib.Count.{leading_le}
 use lib.ListN.{length, drop_of_length-le}
 use Rattle.bits.specs.Bits.{spread}
 use Rattle.bits.proofs.Cutting.{length-spread}
 use Rattle.bits.proofs.Ones.{one_ahead, none_ahead}
 use Rattle.bits.proofs.first_one.Goals as goal
-
-pub loop-k-init : goal.loop-k-init
-loop-k-init c = let e : max c.args.from (64 * (c.args.from / 64)) ≡ c.args.from = omega arith in rw e
-
-pub overflow_add-result : goal.overflow_add-result
-overflow_add-result c = omega (arith, leading_le 64)
 
 pub returns-then-ahead-ne0 : goal.returns-then-ahead-ne0
 returns-then-ahead-ne0 c =

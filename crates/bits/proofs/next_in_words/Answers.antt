@@ -40,9 +40,3 @@ returns-else-skip-lt64 c bs l e =
     let s = c.loop-j in
     let past : length bs ≤ 32 * (s.j + 2) = omega arith in
     omega (arith, rw (drop_of_length-le bs past) at (pass _ bs e s.j (omega arith) c.if-skip-lt64.false), s.invariant bs l e)
-
-pub returns : goal.returns
-returns c bs l e =
-    let s = c.loop-j in
-    let past : length bs ≤ 32 * s.j = omega arith in
-    omega (arith, rw (drop_of_length-le bs past) at (s.invariant bs l e))

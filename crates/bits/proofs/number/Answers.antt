@@ -1,7 +1,7 @@
-use Prim.Native.Nat.{ℕ, ◌+◌, ◌*◌, ◌/◌, ◌%◌, ◌^◌, ◌-◌, ◌≤◌, ◌<◌}
+use Prim.Native.Nat.{ℕ, ◌+◌, ◌*◌, ◌/◌, ◌%◌, ◌^◌, ◌-◌, ◌≤◌}
 use mathlib.Core.Path.{◌≡◌, sym, ap, ◌∙◌}
 use native.Mathlib.Omega.{arith}
-use lib.Pow.{shl-shr, shr-shr, shr_le, field}
+use lib.Pow.{shl-shr, shr-shr, field}
 use Rattle.bits.proofs.number.Goals as goal
 
 -- The shifts give the number at its place.
@@ -15,12 +15,6 @@ shifted x o w r e h =
     ∙ ap (λ (k : ℕ). x * 2 ^ o % 2 ^ k / 2 ^ (o + r)) all
     ∙ field (x * 2 ^ o) w (o + r)
     ∙ ap (λ (k : ℕ). k % 2 ^ w) (sym (shr-shr (x * 2 ^ o) o r) ∙ ap (λ (k : ℕ). k / 2 ^ r) (shl-shr x o))
-
-small : (x k : ℕ) → x % 2 ^ 64 / 2 ^ 32 / 2 ^ k < 2 ^ 32
-small x k = omega (arith, shr_le (x % 2 ^ 64 / 2 ^ 32) k)
-
-pub overflow_cast-result-3 : goal.overflow_cast-result-3
-overflow_cast-result-3 c = record { fits = small _ (32 - c.args.w) }
 
 pub returns : goal.returns
 returns c = let a = c.args in shifted _ (a.at % 32) a.w (64 - a.at % 32 - a.w) (omega arith) c.requires.1

@@ -1,5 +1,5 @@
 use Prim.Native.Nat.{◌*◌}
-use mathlib.Core.Path.{◌≡◌, ◌∙◌}
+use mathlib.Core.Path.{◌∙◌}
 use native.Mathlib.Omega.{arith}
 use Rattle.bits.specs.Bits.{spread}
 use Rattle.bits.proofs.Fronts.{part_padded}
@@ -7,11 +7,6 @@ use Rattle.bits.proofs.Cutting.{eight_bytes}
 use Rattle.bits.proofs.word.Goals as goal
 
 -- Eight bytes, of which some may lie past the end.
-pub returns-then-i-bytes : goal.returns-then-i-bytes
-returns-then-i-bytes c =
-    let place : 8 * (4 * c.args.j) ≡ 32 * c.args.j = omega arith in
-    rw place at c.eight.ensures
-
 pub returns : goal.returns
 returns c =
     let a = c.args in
