@@ -66,9 +66,8 @@ fn follow(rt: &impl Print, rows: &[u64], bytes: &[u8]) -> io::Result<()> {
         say::step(rt, rows, state, bit, next)?;
         state = next;
     }
-    if state.why.is_none() {
-        say::margin(rt, bytes, state.at, room)
-    } else {
-        say::refused(rt, state)
+    match state.why {
+        None => say::margin(rt, bytes, state.at, room),
+        Some(why) => say::refused(rt, state, why.number()),
     }
 }

@@ -65,11 +65,8 @@ fn pace(row: u64) -> u32 {
     row::width(row) as u32
 }
 
-pub fn refused(rt: &impl Print, state: State) -> io::Result<()> {
-    println!(rt;
-        "refused with {}, place {}, field {}",
-        state.why, state.start, state.row
-    )
+pub fn refused(rt: &impl Print, state: State, number: u32) -> io::Result<()> {
+    println!(rt; "refused with {number}, place {}, field {}", state.start, state.row)
 }
 
 // The margin, from a place on.
