@@ -39,32 +39,32 @@ impl Passage {
     fn agrees(self, list: usize, file: usize, journal: usize) -> bool
         ensures { result ≡ lengths self list file journal }
     {
-        (list == BYTES) & (file == BYTES * self.n as usize) & (journal % BYTES == 0)
+        list == BYTES && file == BYTES * self.n as usize && journal % BYTES == 0
     }
 
     // Those of n, c, day and operator are selection's.
     fn in_limits(self, records: usize) -> bool
         ensures { result ≡ limits self records }
     {
-        (1 <= records)
-            & (records <= MOST_RECORDS)
-            & (self.minute <= LAST_MINUTE)
-            & (self.code <= Passage::LAST_CODE)
-            & (self.provider <= Passage::LAST_PROVIDER)
+        (1..=MOST_RECORDS).contains(&records)
+            && self.minute <= LAST_MINUTE
+            && self.code <= Passage::LAST_CODE
+            && self.provider <= Passage::LAST_PROVIDER
     }
 
     // The event of a passage with the contract of a pointer.
     fn event(self, pointer: u32) -> Event
         ensures { result ≡ event_for self pointer }
     {
-        let mut e = Event::ZERO;
-        e.date = self.day;
-        e.minute = self.minute;
-        e.bitmap = Passage::ELEMENTS;
-        e.code = self.code;
-        e.provider = self.provider;
-        e.pointer = pointer;
-        e
+        Event {
+            date: self.day,
+            minute: self.minute,
+            bitmap: Passage::ELEMENTS,
+            code: self.code,
+            provider: self.provider,
+            pointer,
+            ..Event::ZERO
+        }
     }
 }
 
