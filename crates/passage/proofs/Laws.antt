@@ -10,19 +10,17 @@ use lib.Seq.{get_or-take, length-take-le, take_at, drop-append-add, take-take}
 use borrow.Author.Tests.{eq-eqb, ne_eqb, leb-true}
 use Rattle.rows.specs.Row.{pick}
 use Rattle.rows.proofs.Margins.{both}
-use Rattle.records.specs.Answer.{Written, refusal, accepted}
+use Rattle.records.specs.Answer.{Answer, Written, refusal, accepted}
 use Rattle.records.specs.Event.{event_read}
 use Rattle.records.specs.Order.{record_from}
-use Rattle.records.specs.Answer.{Answer}
 use Rattle.std.specs.Prelude.{Ok}
 use Rattle.records.proofs.Coming.{ComesTo, fine, faulty, either, stops}
 use Rattle.lists.specs.List.{entry_at, got_list, list_read}
 use Rattle.lists.specs.Entries.{counted, with_priority}
 use Rattle.lists.specs.declared.list.Entry.{Entry}
 use Rattle.lists.proofs.Kept.{list_kept}
-use Rattle.selection.specs.Eligible.{eligible}
+use Rattle.selection.specs.Eligible.{Selection, eligible}
 use Rattle.selection.specs.Selection.{unselected, selected}
-use Rattle.selection.specs.declared.Selected.{Selected}
 use Rattle.selection.proofs.Least.{nth}
 use Rattle.selection.proofs.Laws.{Chosen, accepted_chosen, chosen_of, chosen_pointer, select_comes}
 use Rattle.selection.proofs.FourBits.{MayChange, reads_changed}
@@ -41,7 +39,7 @@ abbrev pub unpassed : List ℕ → List ℕ → Answer → Outcome
 unpassed list journal r = unchanged (unselected r) list journal
 
 -- A choice settled: the answer is the choice;
-settled_answer : (p : Passage) (list journal : List ℕ) (s : Selected) → (settled p list journal s).answer ≡ s
+settled_answer : (p : Passage) (list journal : List ℕ) (s : Selection) → (settled p list journal s).answer ≡ s
 settled_answer p list journal s = go (eqb s.refusal.number 0)
   where
     go : (t : Bool) → (pick t (record { answer = s; list = list_after p s list; journal = journal_after p s journal }) (unchanged s list journal)).answer ≡ s
@@ -49,7 +47,7 @@ settled_answer p list journal s = go (eqb s.refusal.number 0)
     go false = refl
 
 -- one that was not refused changes both.
-settled_chosen : (p : Passage) (list journal : List ℕ) (s : Selected) → s.refusal.number ≡ 0
+settled_chosen : (p : Passage) (list journal : List ℕ) (s : Selection) → s.refusal.number ≡ 0
     → ((settled p list journal s).list ≡ list_after p s list) × ((settled p list journal s).journal ≡ journal_after p s journal)
 settled_chosen p list journal s right = rw (eq-eqb _ _ right) (refl, refl)
 
@@ -70,7 +68,7 @@ module _ (p : Passage) (list file journal : List ℕ) where
   out = passing p list file journal
 
   -- The answer of selection.
-  abbrev pub choice : Selected
+  abbrev pub choice : Selection
   choice = selected list file p.n p.c p.day p.operator
 
   -- The answer is what is chosen.
@@ -95,7 +93,7 @@ module _ (p : Passage) (list file journal : List ℕ) where
   unfolding passing
   pass_comes = go chosen_comes
     where
-      go : {ns : List ℕ} {s : Selected} → ComesTo chosen_of unselected ns s → ComesTo passed_as (unpassed list journal) ns (settled p list journal s)
+      go : {ns : List ℕ} {s : Selection} → ComesTo chosen_of unselected ns s → ComesTo passed_as (unpassed list journal) ns (settled p list journal s)
       go (fine x) = fine (x, list_after p (chosen_of x) list, journal_after p (chosen_of x) journal)
       go (faulty r why) = rw (ne_eqb _ _ why.some) (faulty r why)
 
@@ -122,8 +120,8 @@ module _ (p : Passage) (list file journal : List ℕ) where
   unfolding passing chosen
   accepted_passage right = go (lengths p (length list) (length file) (length journal)) refl (limits p (length journal / 29)) refl
     where
-      number : {s : Selected} → out.answer ≡ s → s.refusal.number ≡ 0
-      number is = sym (ap (λ (s : Selected). s.refusal.number) is) ∙ right
+      number : {s : Selection} → out.answer ≡ s → s.refusal.number ≡ 0
+      number is = sym (ap (λ (s : Selection). s.refusal.number) is) ∙ right
 
       go : (a : Bool) → lengths p (length list) (length file) (length journal) ≡ a → (b : Bool) → limits p (length journal / 29) ≡ b → Passed
       go true e true f =
@@ -135,8 +133,8 @@ module _ (p : Passage) (list file journal : List ℕ) where
             in_limits = f;
             chosen = accepted_chosen list file p.n p.c p.day p.operator (number same);
             answer = same;
-            list_after_law = ap (λ (s : Selected). (settled p list journal s).list) is ∙ after.0;
-            journal_after_law = ap (λ (s : Selected). (settled p list journal s).journal) is ∙ after.1;
+            list_after_law = ap (λ (s : Selection). (settled p list journal s).list) is ∙ after.0;
+            journal_after_law = ap (λ (s : Selection). (settled p list journal s).journal) is ∙ after.1;
           }
       go true e false f = absurd (omega (arith, number {s = unselected (refusal 11 0)} (answered ∙ rw (e, f))))
       go false e b f = absurd (omega (arith, number {s = unselected (refusal 1 0)} (answered ∙ rw e)))

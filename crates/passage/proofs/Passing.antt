@@ -5,12 +5,12 @@ use mathlib.Core.List.{List}
 use mathlib.Core.Path.{◌≡◌}
 use borrow.Author.Tests.{leb-true}
 use Rattle.rows.proofs.Margins.{both}
-use Rattle.selection.specs.declared.Selected.{Selected}
+use Rattle.selection.specs.Eligible.{Selection}
 use Rattle.passage.specs.Passage.{limits, Outcome}
 use Rattle.passage.specs.declared.Passage.{Passage}
 
 -- Both buffers as they were.
-abbrev pub unchanged : Selected → List ℕ → List ℕ → Outcome
+abbrev pub unchanged : Selection → List ℕ → List ℕ → Outcome
 unchanged s list journal = record { answer = s; list = list; journal = journal }
 
 -- What the limits say.

@@ -6,7 +6,7 @@ use Rattle.records.specs.Event.{event_of, event_written}
 use Rattle.records.specs.Order.{record_from}
 use Rattle.records.specs.declared.event.Event.{Event}
 use Rattle.selection.specs.Selection.{unselected, selected, changing}
-use Rattle.selection.specs.declared.Selected.{Selected}
+use Rattle.selection.specs.Eligible.{Selection}
 use Rattle.passage.specs.declared.Passage.{Passage}
 
 -- The chosen entry's priority after use: 0 to 3 go up by four, 4 to 7 become 15, 8 to 11 stay.
@@ -36,7 +36,7 @@ limits p records =
     leb 1 records && leb records 15 && leb p.minute 1439 && leb p.code 255 && leb p.provider 255
 
 -- What is chosen: 1, 11, then as selection says, which gives its own 11, the list's refusals, and 8.
-unfoldable pub chosen : Passage → List ℕ → List ℕ → List ℕ → Selected
+unfoldable pub chosen : Passage → List ℕ → List ℕ → List ℕ → Selection
 chosen p list file journal =
     pick (lengths p (length list) (length file) (length journal))
     (pick (limits p (length journal / 29)) (selected list file p.n p.c p.day p.operator) (unselected (refusal 11 0)))
@@ -44,20 +44,20 @@ chosen p list file journal =
 
 -- What a passage leaves: the answer, the contract list and the journal.
 pub record Outcome : Type 0 where
-  pub answer : Selected
+  pub answer : Selection
   pub list : List ℕ
   pub journal : List ℕ
 
 -- The list after: the chosen entry's priority is changed.
-abbrev pub list_after : Passage → Selected → List ℕ → List ℕ
+abbrev pub list_after : Passage → Selection → List ℕ → List ℕ
 list_after p s list = (changing list p.n p.c s.position (used s.priority)).bytes
 
 -- The journal after: the event is put first.
-abbrev pub journal_after : Passage → Selected → List ℕ → List ℕ
+abbrev pub journal_after : Passage → Selection → List ℕ → List ℕ
 journal_after p s journal = put_first (event_written (record_from journal 0) (event_for p s.pointer)).bytes journal
 
 -- The answer is the choice. Both buffers change where there is one, and neither where it is refused.
-abbrev pub settled : Passage → List ℕ → List ℕ → Selected → Outcome
+abbrev pub settled : Passage → List ℕ → List ℕ → Selection → Outcome
 settled p list journal s =
     pick (eqb s.refusal.number 0)
     (record { answer = s; list = list_after p s list; journal = journal_after p s journal })

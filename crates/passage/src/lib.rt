@@ -4,6 +4,7 @@
 ghost use Rattle.std.specs.Prelude.{◌≡◌, ◌≤◌, length};
 ghost use Rattle.records.specs.Event.{event_written};
 ghost use Rattle.records.specs.Order.{record_from};
+ghost use Rattle.selection.specs.Selection.{selected_answer};
 ghost use Rattle.passage.specs.Passage.{used, event_for, put_first, lengths, limits, passing};
 ghost use Rattle.passage.specs.Inner.Moved.{moved_down};
 
@@ -38,47 +39,52 @@ impl Passage {
     fn agrees(self, list: usize, file: usize, journal: usize) -> bool
         ensures { result ≡ lengths self list file journal }
     {
-        (list == BYTES) & (file == BYTES * self.n as usize) & (journal % BYTES == 0)
+        list == BYTES && file == BYTES * self.n as usize && journal % BYTES == 0
     }
 
     // Those of n, c, day and operator are selection's.
     fn in_limits(self, records: usize) -> bool
         ensures { result ≡ limits self records }
     {
-        (1 <= records)
-            & (records <= MOST_RECORDS)
-            & (self.minute <= LAST_MINUTE)
-            & (self.code <= Passage::LAST_CODE)
-            & (self.provider <= Passage::LAST_PROVIDER)
+        (1..=MOST_RECORDS).contains(&records)
+            && self.minute <= LAST_MINUTE
+            && self.code <= Passage::LAST_CODE
+            && self.provider <= Passage::LAST_PROVIDER
     }
 
     // The event of a passage with the contract of a pointer.
     fn event(self, pointer: u32) -> Event
         ensures { result ≡ event_for self pointer }
     {
-        let mut e = Event::ZERO;
-        e.date = self.day;
-        e.minute = self.minute;
-        e.bitmap = Passage::ELEMENTS;
-        e.code = self.code;
-        e.provider = self.provider;
-        e.pointer = pointer;
-        e
+        Event {
+            date: self.day,
+            minute: self.minute,
+            bitmap: Passage::ELEMENTS,
+            code: self.code,
+            provider: self.provider,
+            pointer,
+            ..Event::ZERO
+        }
     }
 }
 
 // Selects the contract that the gate uses, changes its priority in the lent list, and puts the event first in the lent journal.
 // Refused, both are as they were.
 #[tactic(auto, unfolding(crate::specs::Passage::passing, crate::specs::Passage::chosen))]
-pub fn pass(list: &mut [u8], file: &[u8], journal: &mut [u8], passage: Passage) -> Selected
-    ensures { record { answer = result; list = list.new; journal = journal.new }
+pub fn pass(
+    list: &mut [u8],
+    file: &[u8],
+    journal: &mut [u8],
+    passage: Passage,
+) -> Result<Selected, Refusal>
+    ensures { record { answer = selected_answer result; list = list.new; journal = journal.new }
         ≡ passing passage list.old file.now journal.old }
 {
     if !passage.agrees(list.len(), file.len(), journal.len()) {
-        return Selected::refused(Refusal::WRONG_LENGTH);
+        return Err(Refusal::WRONG_LENGTH);
     }
     if !passage.in_limits(journal.len() / BYTES) {
-        return Selected::refused(Refusal::OUTSIDE_LIMITS);
+        return Err(Refusal::OUTSIDE_LIMITS);
     }
     let chosen = selection::select(
         list,
@@ -87,28 +93,23 @@ pub fn pass(list: &mut [u8], file: &[u8], journal: &mut [u8], passage: Passage) 
         passage.c,
         passage.day,
         passage.operator,
-    );
-    if chosen.refusal.number != 0 {
-        return chosen;
-    }
-    // From here on nothing is refused: the list was read, and the event's numbers are in their limits.
+    )?;
     let code = used(chosen.priority);
-    selection::change_priority(list, passage.n, passage.c, chosen.position, code);
+    // Not refused: selection read the list, and the chosen entry is in it (law may_change).
+    let _ = selection::change_priority(list, passage.n, passage.c, chosen.position, code);
     put_first(journal, passage.event(chosen.pointer));
-    chosen
+    Ok(chosen)
 }
 
 // A priority after use: 0 to 3 go up by four, 4 to 7 become 15, 8 to 11 stay.
 fn used(priority: u32) -> u32
     ensures { result ≡ used priority }
 {
-    if priority <= 3 {
-        return priority + 4;
+    match priority {
+        0..=3 => priority + 4,
+        4..=7 => Entry::ERASABLE,
+        _ => priority,
     }
-    if priority <= 7 {
-        return Entry::ERASABLE;
-    }
-    priority
 }
 
 // Puts an event first in a journal: the others move down one, unread, and the last falls off.
@@ -117,7 +118,8 @@ fn put_first(journal: &mut [u8], e: Event)
     ensures { journal.new ≡ put_first (event_written (record_from journal.old 0) e).bytes journal.old }
 {
     move_down(journal);
-    event::write(&mut journal[0..BYTES], e);
+    // Not refused: the record has its length, and the event's numbers are in their limits (law recorded).
+    let _ = event::write(&mut journal[..BYTES], e);
 }
 
 // Gives each record but the first the bytes of the one before it.

@@ -18,7 +18,7 @@ use Rattle.lists.specs.List.{ListRead}
 use Rattle.lists.specs.Special.{SpecialRead}
 use Rattle.contract.specs.Contract.{contract_told}
 use Rattle.bip.specs.Value.{bip_told}
-use Rattle.selection.specs.declared.Selected.{Selected}
+use Rattle.selection.specs.Eligible.{Selection}
 use Rattle.loading.specs.Loading.{Outcome}
 use Rattle.loading.specs.Loading.{Loaded}
 use Rattle.passage.specs.Passage as passage
@@ -121,7 +121,7 @@ refused_by t = refusal_at t.number t.place t.field
 abbrev loading : Loaded → List ℕ → List ℕ → Outcome
 loading r list file = record { answer = r; list = list; file = file }
 
-abbrev passing : Selected → List ℕ → List ℕ → passage.Outcome
+abbrev passing : Selection → List ℕ → List ℕ → passage.Outcome
 passing r list journal = record { answer = r; list = list; journal = journal }
 
 abbrev filling : Bool → List ℕ → Bool × List ℕ
@@ -333,7 +333,7 @@ all_sound =
     & (λ g x p. (refl, refl, λ some. refl))
     & (λ g x p. read (λ r. refused_by (bip_told r)) (λ a. refl) (λ r. refl) (bip_one x.0 _ p) (bip_comes g.1.0.now))
     & (λ g x p. wrote g.1.0.now p (bip_write_comes g.1.0.now g.1.1.0))
-    & (λ g x p. read (λ (r : Selected). r.refusal) (λ a. refl) (λ r. refl) p (select_comes _ _ _ _ _ _))
+    & (λ g x p. read (λ (r : Selection). r.refusal) (λ a. refl) (λ r. refl) p (select_comes _ _ _ _ _ _))
     & (λ g x p. (refl, refl, λ some. refl)) & (λ g x p. (refl, refl, λ some. refl))
     & (λ g x p. wrote g.1.0.now p (change_comes _ _ _ _ _))
     & (λ g x p. sound (λ (t : Outcome). t.answer.refusal) (λ t. t.list ∷ t.file ∷ []) _ (λ a. refl) (λ r. (refl, refl)) p (load_comes _ _ _ _))

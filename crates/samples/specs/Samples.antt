@@ -21,7 +21,7 @@ use Rattle.bip.specs.declared.BipContract.{BipContract}
 use Rattle.bip.specs.Value.{BipRead}
 use Rattle.selection.specs.Eligible.{usable, nobody, chosen_at, choose}
 use Rattle.selection.specs.Selection.{unselected}
-use Rattle.selection.specs.declared.Selected.{Selected}
+use Rattle.selection.specs.Eligible.{Selection}
 use Rattle.loading.specs.Blocking.{moment, blocks}
 use Rattle.loading.specs.Place.{place, afterwards}
 use Rattle.loading.specs.Loading.{Lent, loaded, loading, Outcome as Left}
@@ -122,7 +122,7 @@ pub data Case : Type 0 where
   -- a BIP contract, written onto these bytes
   bip_writes : BipContract → (before : List ℕ) → Written → Case
   -- of the entries that a test accepts, this one is chosen
-  chooses : (Entry → Bool) → List Entry → Selected → Case
+  chooses : (Entry → Bool) → List Entry → Selection → Case
 
 abbrev pub Holds : Case → Type 0
 Holds (list_reads n c bytes answer) = list_read n c bytes ≡ answer

@@ -9,9 +9,8 @@ use lib.ListN.{length, drop, length-drop}
 use lib.Seq.{length-take-le}
 use borrow.Author.Tests.{eqb-true, eq-eqb, ne_eqb, leb-true, le-leb}
 use Rattle.rows.proofs.Refusing.{Refusing}
-use Rattle.records.specs.Answer.{refusal}
+use Rattle.records.specs.Answer.{Answer, refusal}
 use Rattle.records.specs.Order.{Attempt, next, needs, record_at}
-use Rattle.records.specs.Answer.{Answer}
 use Rattle.records.proofs.Coming.{ComesTo, fine, faulty, comes_within, stops}
 use Rattle.lists.specs.List.{got_list, no_list, list_read}
 use Rattle.lists.specs.Entries.{counted, attempted}
@@ -20,9 +19,8 @@ use Rattle.lists.specs.declared.list.Entry.{Entry}
 use Rattle.lists.specs.List.{ListRead}
 use Rattle.lists.proofs.Kept.{Apart, list_kept}
 use Rattle.lists.proofs.list.Laws.{list_comes}
-use Rattle.selection.specs.Eligible.{eligible, nobody, chosen_at}
+use Rattle.selection.specs.Eligible.{Selection, eligible, nobody, chosen_at}
 use Rattle.selection.specs.Selection.{unselected, answer, choice, chosen, selecting, selected, part_of}
-use Rattle.selection.specs.declared.Selected.{Selected}
 use Rattle.selection.proofs.Least.{nth, Came, kept, taken, choice_came}
 
 -- The counted entry at a position, from 1.
@@ -37,12 +35,12 @@ pointer_within n before (e ∷ es) zero (low, high, new, rest) h = (low, high)
 pointer_within n before (e ∷ es) (suc k) (low, high, new, rest) h = pointer_within n (before ++ (e.pointer ∷ [])) es k rest (omega arith)
 
 -- An entry with its position, chosen.
-abbrev pub chosen_of : ℕ × Entry → Selected
+abbrev pub chosen_of : ℕ × Entry → Selection
 chosen_of x = chosen_at x.0 x.1
 
 module _ (list file : List ℕ) (n counters day operator : ℕ) where
   -- The answer.
-  abbrev s : Selected
+  abbrev s : Selection
   s = selected list file n counters day operator
 
   -- The lengths and the limits hold.
@@ -50,7 +48,7 @@ module _ (list file : List ℕ) (n counters day operator : ℕ) where
   InOrder = (length list ≡ 29) × (length file ≡ 29 * n) × (day ≤ 16383) × (operator ≤ 255)
 
   -- Another refusal comes first, or all is in order, the list reads, and its entries decide.
-  data Decided (a : Selected) : Type 0 where
+  data Decided (a : Selection) : Type 0 where
     sooner : (r : Answer) → Refusing r.number r.field (1 ∷ 11 ∷ 2 ∷ 4 ∷ 5 ∷ 6 ∷ []) → a ≡ unselected r → Decided a
     later : InOrder → (l : ContractList) → list_read n counters list ≡ got_list l → a ≡ answer (chosen (choice day operator file l)) → Decided a
 
@@ -60,10 +58,10 @@ module _ (list file : List ℕ) (n counters day operator : ℕ) where
       go (eqb (length list) 29) (eqb (length file) (29 * n)) (leb day 16383) (leb operator 255) refl refl refl refl
       refl (list_comes n counters list)
     where
-      rest : Attempt ContractList → Attempt Selected
+      rest : Attempt ContractList → Attempt Selection
       rest a = next a (λ l. chosen (choice day operator file l))
 
-      out : (a b c d : Bool) → ListRead → Selected
+      out : (a b c d : Bool) → ListRead → Selection
       out a b c d r = answer (needs (a && b) 1 (needs (c && d) 11 (rest (attempted r))))
 
       short : Refusing 1 0 (1 ∷ 11 ∷ 2 ∷ 4 ∷ 5 ∷ 6 ∷ [])
@@ -85,10 +83,10 @@ module _ (list file : List ℕ) (n counters day operator : ℕ) where
   came l = choice_came (eligible day operator file) 1 nobody (counted l) (omega arith)
 
   -- The choice is one entry, or there is none.
-  one : (k : ℕ) (e : Entry) (best : Selected) → s ≡ answer (chosen best) → best ≡ chosen_at (1 + k) e → s ≡ chosen_at (1 + k) e
+  one : (k : ℕ) (e : Entry) (best : Selection) → s ≡ answer (chosen best) → best ≡ chosen_at (1 + k) e → s ≡ chosen_at (1 + k) e
   one k e best is same = is ∙ rw (same, ne_eqb (1 + k) 0 (λ z. omega arith))
 
-  none : (best : Selected) → s ≡ answer (chosen best) → best ≡ nobody → s ≡ unselected (refusal 8 0)
+  none : (best : Selection) → s ≡ answer (chosen best) → best ≡ nobody → s ≡ unselected (refusal 8 0)
   none best is same = is ∙ rw same
 
   -- All is in order, the list reads, and the answer is its least eligible entry.
@@ -116,11 +114,11 @@ module _ (list file : List ℕ) (n counters day operator : ℕ) where
           → Came (eligible day operator file) 1 nobody (counted l) (choice day operator file l)
           → Chosen
       from order l read is (kept same over) =
-          absurd (omega (arith, right, ap (λ (x : Selected). x.refusal.number) (none (choice day operator file l) is same)))
+          absurd (omega (arith, right, ap (λ (x : Selection). x.refusal.number) (none (choice day operator file l) is same)))
       from order l read is (taken j h same fit under least) =
           let this : s ≡ chosen_at (1 + j) (nth (counted l) j) = one j (nth (counted l) j) (choice day operator file l) is same in
-          let position : s.position ≡ 1 + j = ap (λ (x : Selected). x.position) this in
-          let priority : s.priority ≡ (nth (counted l) j).priority = ap (λ (x : Selected). x.priority) this in
+          let position : s.position ≡ 1 + j = ap (λ (x : Selection). x.position) this in
+          let priority : s.priority ≡ (nth (counted l) j).priority = ap (λ (x : Selection). x.priority) this in
           let index : s.position - 1 ≡ j = omega arith in
           record {
             order = order;
@@ -129,7 +127,7 @@ module _ (list file : List ℕ) (n counters day operator : ℕ) where
             low = omega arith;
             high = omega arith;
             fit = rw index fit;
-            pointer = rw index (ap (λ (x : Selected). x.pointer) this);
+            pointer = rw index (ap (λ (x : Selection). x.pointer) this);
             priority = rw index priority;
             least =
                 λ k low high other.
@@ -138,7 +136,7 @@ module _ (list file : List ℕ) (n counters day operator : ℕ) where
           }
 
       go : Decided s → Chosen
-      go (sooner r why same) = absurd (why.some (sym (ap (λ (x : Selected). x.refusal.number) same) ∙ right))
+      go (sooner r why same) = absurd (why.some (sym (ap (λ (x : Selection). x.refusal.number) same) ∙ right))
       go (later order l read is) = from order l read is (came l)
 
   -- Its pointer is one of the card's.
@@ -168,11 +166,11 @@ module _ (list file : List ℕ) (n counters day operator : ℕ) where
       from l is (kept same over) k low high =
           not_fit (eligible day operator file (entry_at l k)) (λ fit. (over (k - 1) (omega arith) fit).0 refl)
       from l is (taken j h same fit under least) k low high =
-          absurd (omega (arith, eight, ap (λ (x : Selected). x.refusal.number) (one j (nth (counted l) j) (choice day operator file l) is same)))
+          absurd (omega (arith, eight, ap (λ (x : Selection). x.refusal.number) (one j (nth (counted l) j) (choice day operator file l) is same)))
 
       go : Decided s → NoneEligible
       go (sooner r why same) =
-          let own : r.number ≡ 8 = sym (ap (λ (x : Selected). x.refusal.number) same) ∙ eight in
+          let own : r.number ≡ 8 = sym (ap (λ (x : Selection). x.refusal.number) same) ∙ eight in
           absurd (true≢false (sym (rw own at why.listed)))
       go (later order l read is) = record { order = order; l = l; reads = read; nobody = from l is (came l) }
 

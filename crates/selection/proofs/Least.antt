@@ -10,8 +10,7 @@ use borrow.Author.Tests.{ltb-true, ltb-false, eqb-true, eqb-false}
 use Rattle.rows.specs.Row.{pick}
 use Rattle.lists.specs.List.{entry_of}
 use Rattle.lists.specs.declared.list.Entry.{Entry}
-use Rattle.selection.specs.Eligible.{chosen_at, goes_before, better, choose}
-use Rattle.selection.specs.declared.Selected.{Selected}
+use Rattle.selection.specs.Eligible.{Selection, chosen_at, goes_before, better, choose}
 
 -- Entry k, from 0.
 abbrev pub nth : List Entry → ℕ → Entry
@@ -24,7 +23,7 @@ Least ok es k priority =
     → (priority ≤ (nth es j).priority) × (priority ≡ (nth es j).priority → k ≤ j)
 
 -- What the choice s among entries from a position on is, with the best so far.
-pub data Came (ok : Entry → Bool) (position : ℕ) (best : Selected) (es : List Entry) (s : Selected) : Type 0 where
+pub data Came (ok : Entry → Bool) (position : ℕ) (best : Selection) (es : List Entry) (s : Selection) : Type 0 where
   kept : s ≡ best
       → ((j : ℕ) → j < length es → ok (nth es j) ≡ true → (best.position ≡ 0 → ⊥) × (best.priority ≤ (nth es j).priority))
       → Came ok position best es s
@@ -33,14 +32,14 @@ pub data Came (ok : Entry → Bool) (position : ℕ) (best : Selected) (es : Lis
       → Least ok es k (nth es k).priority
       → Came ok position best es s
 
-before_true : (e : Entry) (best : Selected) → goes_before e best ≡ true → (best.position ≡ 0 → ⊥) → e.priority < best.priority
+before_true : (e : Entry) (best : Selection) → goes_before e best ≡ true → (best.position ≡ 0 → ⊥) → e.priority < best.priority
 before_true e best h n = go (eqb best.position 0) refl h
   where
     go : (t : Bool) → eqb best.position 0 ≡ t → t || ltb e.priority best.priority ≡ true → e.priority < best.priority
     go true p h = absurd (n (eqb-true _ _ p))
     go false p h = ltb-true _ _ h
 
-before_false : (e : Entry) (best : Selected) → goes_before e best ≡ false → (best.position ≡ 0 → ⊥) × (best.priority ≤ e.priority)
+before_false : (e : Entry) (best : Selection) → goes_before e best ≡ false → (best.position ≡ 0 → ⊥) × (best.priority ≤ e.priority)
 before_false e best h = go (eqb best.position 0) refl h
   where
     go : (t : Bool) → eqb best.position 0 ≡ t → t || ltb e.priority best.priority ≡ false
@@ -48,7 +47,7 @@ before_false e best h = go (eqb best.position 0) refl h
     go true p h = absurd (true≢false h)
     go false p h = (eqb-false _ _ p, ltb-false _ _ h)
 
-module _ (ok : Entry → Bool) (position : ℕ) (best : Selected) (e : Entry) (es : List Entry) (s : Selected) where
+module _ (ok : Entry → Bool) (position : ℕ) (best : Selection) (e : Entry) (es : List Entry) (s : Selection) where
   -- An entry that is not eligible, or does not go before the best, is passed over.
   past : (ok e ≡ true → (best.position ≡ 0 → ⊥) × (best.priority ≤ e.priority))
       → Came ok (suc position) best es s
@@ -88,13 +87,13 @@ module _ (ok : Entry → Bool) (position : ℕ) (best : Selected) (e : Entry) (e
       all zero h f = (omega (arith, lower), λ e. absurd (omega (arith, lower)))
       all (suc j) h f = let (low, early) = least j (omega arith) f in (low, λ e. let k≤j = early e in omega arith)
 
-pub choice_came : (ok : Entry → Bool) (position : ℕ) (best : Selected) (es : List Entry) → 1 ≤ position
+pub choice_came : (ok : Entry → Bool) (position : ℕ) (best : Selection) (es : List Entry) → 1 ≤ position
     → Came ok position best es (choose ok position best es)
 choice_came ok position best [] one = kept refl (λ j h. absurd (omega arith))
 choice_came ok position best (e ∷ es) one =
     go (ok e) refl (goes_before e best) refl (choice_came ok (suc position) (better (ok e) position e best) es (omega arith))
   where
-    s : Selected
+    s : Selection
     s = choose ok (suc position) (better (ok e) position e best) es
 
     go : (t : Bool) → ok e ≡ t → (g : Bool) → goes_before e best ≡ g

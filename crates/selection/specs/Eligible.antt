@@ -2,7 +2,7 @@
 use Rattle.std.specs.Prelude.{ℕ, suc, Bool, true, false, ◌&&◌, ◌||◌, List, [], ◌∷◌, eqb, ltb, leb}
 use Rattle.bits.specs.Bits.{odd}
 use Rattle.rows.specs.Row.{pick}
-use Rattle.records.specs.Answer.{refusal}
+use Rattle.records.specs.Answer.{Answer, refusal}
 use Rattle.records.specs.Order.{record_at}
 use Rattle.lists.specs.declared.list.Entry.{Entry}
 use Rattle.contract.specs.Contract.{contract_read}
@@ -11,7 +11,6 @@ use Rattle.contract.specs.declared.Data.{Data}
 use Rattle.contract.specs.declared.Data.TheVariants.{Nothing, Carnet, Urban}
 use Rattle.contract.specs.Contract.{ContractRead}
 use Rattle.std.specs.Prelude.{Ok, Err}
-use Rattle.selection.specs.declared.Selected.{Selected}
 
 -- Priorities 0 to 11 are usable.
 abbrev pub usable : Entry → Bool
@@ -51,22 +50,29 @@ serves day operator e (Err r) = false
 abbrev pub eligible : ℕ → ℕ → List ℕ → Entry → Bool
 eligible day operator file e = usable e && serves day operator e (contract_read e.kind (record_at file e.pointer))
 
+-- A choice: the refusal, and the chosen entry's position in the list, from 1, its pointer and its priority.
+pub record Selection : Type 0 where
+  pub refusal : Answer
+  pub position : ℕ
+  pub pointer : ℕ
+  pub priority : ℕ
+
 -- No entry chosen yet.
-abbrev pub nobody : Selected
+abbrev pub nobody : Selection
 nobody = record { refusal = refusal 0 0; position = 0; pointer = 0; priority = 0 }
 
-abbrev pub chosen_at : ℕ → Entry → Selected
+abbrev pub chosen_at : ℕ → Entry → Selection
 chosen_at position e = record { refusal = refusal 0 0; position = position; pointer = e.pointer; priority = e.priority }
 
 -- An entry goes before the one chosen so far if there is none, or its priority number is lower.
-abbrev pub goes_before : Entry → Selected → Bool
+abbrev pub goes_before : Entry → Selection → Bool
 goes_before e best = eqb best.position 0 || ltb e.priority best.priority
 
-abbrev pub better : Bool → ℕ → Entry → Selected → Selected
+abbrev pub better : Bool → ℕ → Entry → Selection → Selection
 better ok position e best = pick (ok && goes_before e best) (chosen_at position e) best
 
 -- The choice among entries from a position on: of those that are eligible the one with the lowest priority number, the
 -- earliest listed among equals.
-abbrev pub choose : (Entry → Bool) → ℕ → Selected → List Entry → Selected
+abbrev pub choose : (Entry → Bool) → ℕ → Selection → List Entry → Selection
 choose ok position best [] = best
 choose ok position best (e ∷ es) = choose ok (suc position) (better (ok e) position e best) es
