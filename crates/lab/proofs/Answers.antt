@@ -12,6 +12,9 @@ use Rattle.lab.specs.Inner.Reading.{met, Fits, by, Reads, ReadsBare}
 use Rattle.lab.specs.Machine.{Reader}
 use Rattle.lab.proofs.Following.{outcome, followed}
 use Rattle.lab.proofs.Running.{length_cleared}
+use Rattle.lab.specs.Machine.{reader}
+use Rattle.lab.specs.declared.state.State.{State}
+use Rattle.records.proofs.Telling.{why_one}
 use Rattle.records.proofs.Answering.{answer_none, answer_one}
 use Rattle.records.specs.declared.Refusal.{Refusal}
 use Rattle.records.specs.Answer.{as_answer, refusal, refusal_at, answered, valued, from, read_record, area_length, read_area}
@@ -21,6 +24,21 @@ use Rattle.records.specs.Answer.{Answer}
 pub unmet : (w : Option Why) → is_some w ≡ false → why_of w ≡ 0
 unmet None e = refl
 unmet (Some w) e = cc
+
+-- A state in code is told whole by the reader's state.
+pub state_one : (s t : State) → reader s ≡ reader t → s ≡ t
+state_one s t same =
+    let why = why_one s.why t.why (ap (λ (r : Reader). r.why) same) in
+    λ i. record {
+      room = (same i).room;
+      most = (same i).most;
+      at = (same i).at;
+      why = why i;
+      row = (same i).row;
+      start = (same i).start;
+      first = (same i).first;
+      numbers = (same i).numbers;
+    }
 
 -- What a state met.
 pub met_none : (s : Reader) → refusal 0 0 ≡ met s → s.why ≡ 0

@@ -1,5 +1,5 @@
 -- What an answer tells is the whole of it: answers that tell the same are equal.
-use Rattle.std.specs.Prelude.{ℕ, Result, Ok, Err}
+use Rattle.std.specs.Prelude.{ℕ, Option, None, Some, Result, Ok, Err}
 use mathlib.Core.Path.{◌≡◌, refl, sym, ap, ◌∙◌}
 use lib.Dec.{eqb}
 use lib.ListN.{drop}
@@ -7,6 +7,8 @@ use Rattle.rows.specs.Row.{pick}
 use Rattle.rows.specs.Why.{number_of}
 use Rattle.rows.specs.declared.Why.{Why}
 use Rattle.rows.specs.declared.Why.TheVariants.{WrongLength, PastEnd, Unknown, OutOfRange, LeftOver, ListRule, NoFit, NoneEligible, NoPosition, MustFall, OutsideLimits}
+use borrow.Author.Tests.{ne_eqb}
+use Rattle.rows.specs.Inner.Standing.{why_of}
 use Rattle.rows.proofs.Stepping.{numbered}
 use Rattle.records.specs.declared.Refusal.{Refusal}
 use Rattle.records.specs.Answer.{Answer, Told, refusal, refusal_at, as_answer, answer_of, heard}
@@ -94,3 +96,17 @@ heard_one (Ok a) (Ok b) e = ap Ok cc
 heard_one (Err r) (Err s) e = ap Err (refusal_one r s cc)
 heard_one (Ok a) (Err s) e = cc
 heard_one (Err r) (Ok b) e = cc
+
+pub written_one : (x y : Result Unit Refusal) → answer_of x ≡ answer_of y → x ≡ y
+written_one = result_one answer_of (λ a. a) (λ a. tt) (λ a. refl) (λ a. refl) (λ r. refl)
+
+-- What a walk met is told whole by its number.
+abbrev option_back : ℕ → Option Why
+option_back n = pick (eqb n 0) None (Some (why_back n))
+
+option_returned : (o : Option Why) → option_back (why_of o) ≡ o
+option_returned None = refl
+option_returned (Some w) = rw (ne_eqb _ _ (numbered w)) (ap (λ (v : Why). Some v) (why_returned w))
+
+pub why_one : (o p : Option Why) → why_of o ≡ why_of p → o ≡ p
+why_one o p same = sym (option_returned o) ∙ ap option_back same ∙ option_returned p

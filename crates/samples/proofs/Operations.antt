@@ -2,6 +2,7 @@
 -- refusal has one of a few numbers, names a field only with 2, 3, 4 or 7, and changes nothing that was lent. Document 01, "What
 -- the contracts must say"; 02, Q-2. The contracts are the code's own: `Learnt` of a function is its `ensures`, as a caller has it.
 use Prim.Native.Nat.{ℕ}
+use Rattle.std.specs.Prelude.{Result, Ok, Err}
 use mathlib.Core.Bool.{Bool, true, false}
 use mathlib.Core.List.{List, [], ◌∷◌}
 use mathlib.Core.Path.{◌≡◌, refl, sym, ap, subst, ◌∙◌}
@@ -9,21 +10,27 @@ use lib.ListN.{length}
 use Rattle.rows.specs.Row.{among}
 use Rattle.rows.specs.Refusing.{may_name}
 use Rattle.rows.proofs.Refusing.{among_behind}
-use Rattle.records.specs.Answer.{Written, Told, refusal, refusal_at, accepted}
+use Rattle.records.specs.declared.Refusal.{Refusal}
+use Rattle.records.specs.Answer.{Written, Told, answer_of, heard, refusal, refusal_at, accepted}
 use Rattle.records.specs.Environment.{environment_told}
 use Rattle.records.specs.Event.{event_told}
 use Rattle.records.specs.Answer.{Answer}
-use Rattle.holder.specs.Holder.{HolderRead}
-use Rattle.lists.specs.List.{ListRead}
-use Rattle.lists.specs.Special.{SpecialRead}
+use Rattle.holder.specs.Holder.{HolderRead, holder_answer}
+use Rattle.lists.specs.List.{ListRead, list_answer}
+use Rattle.lists.specs.Special.{SpecialRead, special_answer}
 use Rattle.contract.specs.Contract.{contract_told}
 use Rattle.bip.specs.Value.{bip_told}
 use Rattle.selection.specs.Eligible.{Selection}
-use Rattle.loading.specs.Loading.{Outcome}
-use Rattle.loading.specs.Loading.{Loaded}
+use Rattle.selection.specs.Selection.{selected_answer}
+use Rattle.selection.specs.declared.Selected.{Selected}
+use Rattle.holder.specs.declared.Holder.{Holder}
+use Rattle.lists.specs.declared.list.ContractList.{ContractList}
+use Rattle.lists.specs.declared.special.SpecialList.{SpecialList}
+use Rattle.lab.proofs.Answers.{state_one}
+use Rattle.loading.specs.Loading.{Outcome, Loaded, loaded_answer}
 use Rattle.passage.specs.Passage as passage
 use Rattle.text.specs.Hex.{choose, spelt}
-use Rattle.records.proofs.Telling.{environment_one, event_one}
+use Rattle.records.proofs.Telling.{environment_one, event_one, heard_one, result_one, written_one}
 use Rattle.records.proofs.Coming.{ComesTo, fine, faulty, unwritten}
 use Rattle.records.proofs.environment.Laws.{environment_comes, environment_write_comes}
 use Rattle.records.proofs.event.Laws.{event_comes, event_write_comes}
@@ -106,23 +113,23 @@ giving contract tells = by contract (λ κs r s. tells κs r) (λ a. refusal 0 0
 -- One that writes to lent bytes.
 abbrev writing :
     {L : Type 0} {D E : L → Type 0}
-    → ((κs : L) → D κs → Answer → E κs → Type 0)
+    → ((κs : L) → D κs → Result Unit Refusal → E κs → Type 0)
     → ((κs : L) → D κs → List ℕ)
     → ((κs : L) → E κs → List ℕ)
     → List ℕ
     → Operation
 writing contract before after numbers =
-    by {A = Written} contract (λ κs r s. record { answer = r; bytes = after κs s }) (λ w. w.answer) (λ κs d. before κs d ∷ []) (λ w. w.bytes ∷ []) numbers
+    by {A = Result Unit Refusal × List ℕ} contract (λ κs r s. (r, after κs s)) (λ t. answer_of t.0) (λ κs d. before κs d ∷ []) (λ t. t.1 ∷ []) numbers
 
 -- The refusal that an enum's answer tells.
 abbrev refused_by : Told → Answer
 refused_by t = refusal_at t.number t.place t.field
 
-abbrev loading : Loaded → List ℕ → List ℕ → Outcome
-loading r list file = record { answer = r; list = list; file = file }
+abbrev loading : Result ℕ Refusal → List ℕ → List ℕ → Result ℕ Refusal × List ℕ × List ℕ
+loading r list file = (r, list, file)
 
-abbrev passing : Selection → List ℕ → List ℕ → passage.Outcome
-passing r list journal = record { answer = r; list = list; journal = journal }
+abbrev passing : Result Selected Refusal → List ℕ → List ℕ → Result Selected Refusal × List ℕ × List ℕ
+passing r list journal = (r, list, journal)
 
 abbrev filling : Bool → List ℕ → Bool × List ℕ
 filling r bytes = (r, bytes)
@@ -131,20 +138,20 @@ unfoldable pub operations : List Operation
 operations =
     giving Rattle.rows.proofs.margin.Margin.words.Reads.Learnt (λ κs r. r)
     ∷ giving Rattle.rows.proofs.margin.Margin.of.Reads.Learnt (λ κs r. r)
-    ∷ reading Rattle.records.proofs.environment.read.Reads.Learnt (λ r. refused_by (environment_told r)) (1 ∷ 3 ∷ [])
+    ∷ reading Rattle.records.proofs.environment.read.Reads.Learnt (λ r. refused_by (environment_told (heard r))) (1 ∷ 3 ∷ [])
     ∷ writing Rattle.records.proofs.environment.write.Reads.Learnt (λ κs d. d.0.now) (λ κs s. s.0.now) (1 ∷ 3 ∷ 7 ∷ [])
     ∷ giving Rattle.records.proofs.environment.Environment.numbers.Reads.Learnt (λ κs r. r)
     ∷ giving Rattle.records.proofs.environment.Environment.of.Reads.Learnt (λ κs r. r)
-    ∷ reading Rattle.records.proofs.event.read.Reads.Learnt (λ r. refused_by (event_told r)) (1 ∷ 2 ∷ 4 ∷ [])
+    ∷ reading Rattle.records.proofs.event.read.Reads.Learnt (λ r. refused_by (event_told (heard r))) (1 ∷ 2 ∷ 4 ∷ [])
     ∷ writing Rattle.records.proofs.event.write.Reads.Learnt (λ κs d. d.0.now) (λ κs s. s.0.now) (1 ∷ 2 ∷ 4 ∷ 7 ∷ [])
     ∷ giving Rattle.records.proofs.event.Event.numbers.Reads.Learnt (λ κs r. r)
     ∷ giving Rattle.records.proofs.event.Event.of.Reads.Learnt (λ κs r. r)
     ∷ giving Rattle.records.proofs.part.Reads.Learnt (λ κs r. r.now)
-    ∷ reading Rattle.holder.proofs.read.Reads.Learnt (λ r. r.refusal) (1 ∷ 2 ∷ 4 ∷ [])
+    ∷ reading Rattle.holder.proofs.read.Reads.Learnt (λ r. (holder_answer r).refusal) (1 ∷ 2 ∷ 4 ∷ [])
     ∷ writing Rattle.holder.proofs.write.Reads.Learnt (λ κs d. d.0.now) (λ κs s. s.0.now) (1 ∷ 2 ∷ 4 ∷ 7 ∷ [])
     ∷ giving Rattle.holder.proofs.Holder.numbers.Reads.Learnt (λ κs r. r)
     ∷ giving Rattle.holder.proofs.Holder.of.Reads.Learnt (λ κs r. r)
-    ∷ reading Rattle.lists.proofs.list.read.Reads.Learnt (λ r. r.refusal) (1 ∷ 11 ∷ 2 ∷ 4 ∷ 5 ∷ 6 ∷ [])
+    ∷ reading Rattle.lists.proofs.list.read.Reads.Learnt (λ r. (list_answer r).refusal) (1 ∷ 11 ∷ 2 ∷ 4 ∷ 5 ∷ 6 ∷ [])
     ∷ writing Rattle.lists.proofs.list.write.Reads.Learnt (λ κs d. d.0.now) (λ κs s. s.0.now) (1 ∷ 11 ∷ 7 ∷ 2 ∷ 4 ∷ 6 ∷ [])
     ∷ giving Rattle.lists.proofs.list.Entry.new.Reads.Learnt (λ κs r. r)
     ∷ giving Rattle.lists.proofs.list.Entry.with_network.Reads.Learnt (λ κs r. r)
@@ -158,11 +165,11 @@ operations =
     ∷ giving Rattle.lists.proofs.list.ContractList.len.Reads.Learnt (λ κs r. r)
     ∷ giving Rattle.lists.proofs.list.ContractList.numbers.Reads.Learnt (λ κs r. r)
     ∷ giving Rattle.lists.proofs.list.ContractList.of.Reads.Learnt (λ κs r. r)
-    ∷ reading Rattle.lists.proofs.special.read.Reads.Learnt (λ r. r.refusal) (1 ∷ 11 ∷ 4 ∷ 5 ∷ 6 ∷ [])
+    ∷ reading Rattle.lists.proofs.special.read.Reads.Learnt (λ r. (special_answer r).refusal) (1 ∷ 11 ∷ 4 ∷ 5 ∷ 6 ∷ [])
     ∷ writing Rattle.lists.proofs.special.write.Reads.Learnt (λ κs d. d.0.now) (λ κs s. s.0.now) (1 ∷ 11 ∷ 7 ∷ 4 ∷ 6 ∷ [])
     ∷ giving Rattle.lists.proofs.special.SpecialList.numbers.Reads.Learnt (λ κs r. r)
     ∷ giving Rattle.lists.proofs.special.SpecialList.of.Reads.Learnt (λ κs r. r)
-    ∷ reading Rattle.contract.proofs.read.Reads.Learnt (λ r. refused_by (contract_told r)) (1 ∷ 3 ∷ 2 ∷ 4 ∷ [])
+    ∷ reading Rattle.contract.proofs.read.Reads.Learnt (λ r. refused_by (contract_told (heard r))) (1 ∷ 3 ∷ 2 ∷ 4 ∷ [])
     ∷ writing Rattle.contract.proofs.write.Reads.Learnt (λ κs d. d.0.now) (λ κs s. s.0.now) (1 ∷ 3 ∷ 7 ∷ 2 ∷ 4 ∷ [])
     ∷ giving Rattle.contract.proofs.Contract.head_numbers.Reads.Learnt (λ κs r. r)
     ∷ giving Rattle.contract.proofs.Contract.of_head.Reads.Learnt (λ κs r. r)
@@ -171,28 +178,27 @@ operations =
     ∷ giving Rattle.contract.proofs.Data42.of.Reads.Learnt (λ κs r. r)
     ∷ giving Rattle.contract.proofs.Data50.numbers.Reads.Learnt (λ κs r. r)
     ∷ giving Rattle.contract.proofs.Data50.of.Reads.Learnt (λ κs r. r)
-    ∷ reading Rattle.bip.proofs.read.Reads.Learnt (λ r. refused_by (bip_told r)) (1 ∷ [])
+    ∷ reading Rattle.bip.proofs.read.Reads.Learnt (λ r. refused_by (bip_told (heard r))) (1 ∷ [])
     ∷ writing Rattle.bip.proofs.write.Reads.Learnt (λ κs d. d.0.now) (λ κs s. s.0.now) (1 ∷ 7 ∷ [])
-    ∷ reading Rattle.selection.proofs.select.Reads.Learnt (λ r. r.refusal) (1 ∷ 11 ∷ 2 ∷ 4 ∷ 5 ∷ 6 ∷ 8 ∷ [])
-    ∷ giving Rattle.selection.proofs.Selected.refused.Reads.Learnt (λ κs r. r)
+    ∷ reading Rattle.selection.proofs.select.Reads.Learnt (λ r. (selected_answer r).refusal) (1 ∷ 11 ∷ 2 ∷ 4 ∷ 5 ∷ 6 ∷ 8 ∷ [])
     ∷ giving Rattle.selection.proofs.part.Reads.Learnt (λ κs r. r.now)
     ∷ writing Rattle.selection.proofs.change_priority.Reads.Learnt (λ κs d. d.0.now) (λ κs s. s.0.now) (1 ∷ 11 ∷ 2 ∷ 4 ∷ 5 ∷ 6 ∷ [])
-    ∷ by Rattle.loading.proofs.load.Reads.Learnt (λ κs r s. loading r s.0.now s.1.0.now) (λ x. x.answer.refusal)
-    (λ κs d. d.0.now ∷ d.1.0.now ∷ []) (λ x. x.list ∷ x.file ∷ []) (1 ∷ 11 ∷ 2 ∷ 3 ∷ 4 ∷ 5 ∷ 6 ∷ 9 ∷ [])
-    ∷ by Rattle.passage.proofs.pass.Reads.Learnt (λ κs r s. passing r s.0.now s.1.1.0.now) (λ x. x.answer.refusal)
-    (λ κs d. d.0.now ∷ d.1.1.0.now ∷ []) (λ x. x.list ∷ x.journal ∷ []) (1 ∷ 11 ∷ 2 ∷ 4 ∷ 5 ∷ 6 ∷ 8 ∷ [])
+    ∷ by Rattle.loading.proofs.load.Reads.Learnt (λ κs r s. loading r s.0.now s.1.0.now) (λ x. (loaded_answer x.0).refusal)
+    (λ κs d. d.0.now ∷ d.1.0.now ∷ []) (λ x. x.1 ∷ x.2 ∷ []) (1 ∷ 11 ∷ 2 ∷ 3 ∷ 4 ∷ 5 ∷ 6 ∷ 9 ∷ [])
+    ∷ by Rattle.passage.proofs.pass.Reads.Learnt (λ κs r s. passing r s.0.now s.1.1.0.now) (λ x. (selected_answer x.0).refusal)
+    (λ κs d. d.0.now ∷ d.1.1.0.now ∷ []) (λ x. x.1 ∷ x.2 ∷ []) (1 ∷ 11 ∷ 2 ∷ 4 ∷ 5 ∷ 6 ∷ 8 ∷ [])
     ∷ writing Rattle.gate.proofs.apply.Reads.Learnt (λ κs d. d.0.now) (λ κs s. s.0.now) (1 ∷ 11 ∷ [])
     ∷ writing Rattle.gate.proofs.find.Reads.Learnt (λ κs d. d.1.1.0.now) (λ κs s. s.1.1.0.now) (1 ∷ 10 ∷ [])
     ∷ writing Rattle.gate.proofs.join.Reads.Learnt (λ κs d. d.1.1.0.now) (λ κs s. s.1.1.0.now) (1 ∷ [])
     ∷ giving Rattle.holder.proofs.is_area.Reads.Learnt (λ κs r. r)
     ∷ giving Rattle.contract.proofs.known.Reads.Learnt (λ κs r. r)
     ∷ giving Rattle.lists.proofs.list.outside.Reads.Learnt (λ κs r. r)
-    ∷ reading Rattle.lab.proofs.environment.Reads.Learnt (λ r. refused_by (environment_told r)) (1 ∷ 3 ∷ [])
-    ∷ reading Rattle.lab.proofs.event.Reads.Learnt (λ r. refused_by (event_told r)) (1 ∷ 2 ∷ 4 ∷ [])
-    ∷ reading Rattle.lab.proofs.holder.Reads.Learnt (λ r. r.refusal) (1 ∷ 2 ∷ 4 ∷ [])
-    ∷ reading Rattle.lab.proofs.contract.Reads.Learnt (λ r. refused_by (contract_told r)) (1 ∷ 3 ∷ 2 ∷ 4 ∷ [])
-    ∷ reading Rattle.lab.proofs.list.Reads.Learnt (λ r. r.refusal) (1 ∷ 11 ∷ 2 ∷ 4 ∷ 5 ∷ 6 ∷ [])
-    ∷ reading Rattle.lab.proofs.special.Reads.Learnt (λ r. r.refusal) (1 ∷ 11 ∷ 4 ∷ 5 ∷ 6 ∷ [])
+    ∷ reading Rattle.lab.proofs.environment.Reads.Learnt (λ r. refused_by (environment_told (heard r))) (1 ∷ 3 ∷ [])
+    ∷ reading Rattle.lab.proofs.event.Reads.Learnt (λ r. refused_by (event_told (heard r))) (1 ∷ 2 ∷ 4 ∷ [])
+    ∷ reading Rattle.lab.proofs.holder.Reads.Learnt (λ r. (holder_answer r).refusal) (1 ∷ 2 ∷ 4 ∷ [])
+    ∷ reading Rattle.lab.proofs.contract.Reads.Learnt (λ r. refused_by (contract_told (heard r))) (1 ∷ 3 ∷ 2 ∷ 4 ∷ [])
+    ∷ reading Rattle.lab.proofs.list.Reads.Learnt (λ r. (list_answer r).refusal) (1 ∷ 11 ∷ 2 ∷ 4 ∷ 5 ∷ 6 ∷ [])
+    ∷ reading Rattle.lab.proofs.special.Reads.Learnt (λ r. (special_answer r).refusal) (1 ∷ 11 ∷ 4 ∷ 5 ∷ 6 ∷ [])
     ∷ giving Rattle.lab.proofs.state.State.begin.Reads.Learnt (λ κs r. r)
     ∷ giving Rattle.lab.proofs.state.State.step.Reads.Learnt (λ κs r. r)
     ∷ giving Rattle.lab.proofs.run.bit_at.Reads.Learnt (λ κs r. r)
@@ -225,34 +231,80 @@ same_by contents p q =
     let bytes = p.1 ∙ ap contents result ∙ sym q.1 in
     λ i. (result i, bytes i)
 
+-- Answers in code that tell the same are equal,
+holder_one : (x y : Result Holder Refusal) → holder_answer x ≡ holder_answer y → x ≡ y
+holder_one = result_one holder_answer (λ r. r.refusal) (λ r. r.holder) (λ a. refl) (λ a. refl) (λ r. refl)
+
+list_one : (x y : Result ContractList Refusal) → list_answer x ≡ list_answer y → x ≡ y
+list_one = result_one list_answer (λ r. r.refusal) (λ r. r.list) (λ a. refl) (λ a. refl) (λ r. refl)
+
+special_one : (x y : Result SpecialList Refusal) → special_answer x ≡ special_answer y → x ≡ y
+special_one = result_one special_answer (λ r. r.refusal) (λ r. r.list) (λ a. refl) (λ a. refl) (λ r. refl)
+
+selected_one : (x y : Result Selected Refusal) → selected_answer x ≡ selected_answer y → x ≡ y
+selected_one =
+    result_one selected_answer (λ r. r.refusal) (λ r. record { position = r.position; pointer = r.pointer; priority = r.priority })
+    (λ a. refl) (λ a. refl) (λ r. refl)
+
+loaded_one : (x y : Result ℕ Refusal) → loaded_answer x ≡ loaded_answer y → x ≡ y
+loaded_one = result_one loaded_answer (λ r. r.refusal) (λ r. r.pointer) (λ a. refl) (λ a. refl) (λ r. refl)
+
+-- and so are those that leave the same contents.
+wrote_same :
+    {r s : Result Unit Refusal} {x y : List ℕ} {w : Written}
+    → record { answer = answer_of r; bytes = x } ≡ w
+    → record { answer = answer_of s; bytes = y } ≡ w
+    → ◌≡◌ {A = Result Unit Refusal × List ℕ} (r, x) (s, y)
+wrote_same {r} {s} p q =
+    let both = same p q in
+    let answer = written_one r s (ap (λ (w : Written). w.answer) both) in
+    λ i. (answer i, (both i).bytes)
+
+loaded_same :
+    {r s : Result ℕ Refusal} {x y file rest : List ℕ} {w : Outcome}
+    → record { answer = loaded_answer r; list = x; file = file } ≡ w
+    → record { answer = loaded_answer s; list = y; file = rest } ≡ w
+    → loading r x file ≡ loading s y rest
+loaded_same {r} {s} p q =
+    let both = same p q in
+    let answer = loaded_one r s (ap (λ (w : Outcome). w.answer) both) in
+    λ i. (answer i, (both i).list, (both i).file)
+
+passed_same :
+    {r s : Result Selected Refusal} {x y journal rest : List ℕ} {w : passage.Outcome}
+    → record { answer = selected_answer r; list = x; journal = journal } ≡ w
+    → record { answer = selected_answer s; list = y; journal = rest } ≡ w
+    → passing r x journal ≡ passing s y rest
+passed_same {r} {s} p q =
+    let both = same p q in
+    let answer = selected_one r s (ap (λ (w : passage.Outcome). w.answer) both) in
+    λ i. (answer i, (both i).list, (both i).journal)
+
 -- Every contract allows one answer.
 pub all_one : All OneAnswer operations
 unfolding operations
 all_one =
-    (λ g x y. same) & (λ g x y. same)
-    & (λ g x y p q. environment_one _ _ (same p q))
+    (λ g x y. same) & (λ g x y. same) & (λ g x y p q. heard_one _ _ (environment_one _ _ (same p q)))
+    & (λ g x y. wrote_same) & (λ g x y. same) & (λ g x y. same)
+    & (λ g x y p q. heard_one _ _ (event_one _ _ (same p q))) & (λ g x y. wrote_same) & (λ g x y. same)
+    & (λ g x y. same) & (λ g x y. same) & (λ g x y p q. holder_one _ _ (same p q)) & (λ g x y. wrote_same)
+    & (λ g x y. same) & (λ g x y. same) & (λ g x y p q. list_one _ _ (same p q)) & (λ g x y. wrote_same)
+    & (λ g x y. same) & (λ g x y. same) & (λ g x y. same) & (λ g x y. same) & (λ g x y. same) & (λ g x y. same)
+    & (λ g x y. same) & (λ g x y. same) & (λ g x y. same) & (λ g x y. same) & (λ g x y. same) & (λ g x y. same)
+    & (λ g x y p q. special_one _ _ (same p q)) & (λ g x y. wrote_same) & (λ g x y. same) & (λ g x y. same)
+    & (λ g x y p q. heard_one _ _ (contract_one _ _ (same p q))) & (λ g x y. wrote_same) & (λ g x y. same)
+    & (λ g x y. same) & (λ g x y. same) & (λ g x y. same) & (λ g x y. same) & (λ g x y. same) & (λ g x y. same)
+    & (λ g x y p q. heard_one _ _ (bip_one _ _ (same p q))) & (λ g x y. wrote_same)
+    & (λ g x y p q. selected_one _ _ (same p q)) & (λ g x y. same) & (λ g x y. wrote_same) & (λ g x y. loaded_same)
+    & (λ g x y. passed_same) & (λ g x y. wrote_same) & (λ g x y. wrote_same) & (λ g x y. wrote_same)
     & (λ g x y. same) & (λ g x y. same) & (λ g x y. same)
-    & (λ g x y p q. event_one _ _ (same p q))
+    & (λ g x y p q. heard_one _ _ (environment_one _ _ (same p q)))
+    & (λ g x y p q. heard_one _ _ (event_one _ _ (same p q))) & (λ g x y p q. holder_one _ _ (same p q))
+    & (λ g x y p q. heard_one _ _ (contract_one _ _ (same p q))) & (λ g x y p q. list_one _ _ (same p q))
+    & (λ g x y p q. special_one _ _ (same p q)) & (λ g x y p q. state_one _ _ (same p q))
+    & (λ g x y p q. state_one _ _ (same p q)) & (λ g x y. same) & (λ g x y. same) & (λ g x y. same)
     & (λ g x y. same) & (λ g x y. same) & (λ g x y. same) & (λ g x y. same) & (λ g x y. same) & (λ g x y. same)
-    & (λ g x y. same) & (λ g x y. same) & (λ g x y. same) & (λ g x y. same) & (λ g x y. same) & (λ g x y. same)
-    & (λ g x y. same) & (λ g x y. same) & (λ g x y. same) & (λ g x y. same) & (λ g x y. same) & (λ g x y. same)
-    & (λ g x y. same) & (λ g x y. same) & (λ g x y. same) & (λ g x y. same) & (λ g x y. same) & (λ g x y. same)
-    & (λ g x y. same) & (λ g x y. same)
-    & (λ g x y p q. contract_one _ _ (same p q))
-    & (λ g x y. same) & (λ g x y. same) & (λ g x y. same) & (λ g x y. same) & (λ g x y. same) & (λ g x y. same)
-    & (λ g x y. same) & (λ g x y. same)
-    & (λ g x y p q. bip_one _ _ (same p q))
-    & (λ g x y. same) & (λ g x y. same) & (λ g x y. same) & (λ g x y. same) & (λ g x y. same) & (λ g x y. same)
-    & (λ g x y. same) & (λ g x y. same) & (λ g x y. same) & (λ g x y. same)
-    & (λ g x y. same) & (λ g x y. same) & (λ g x y. same)
-    & (λ g x y p q. environment_one _ _ (same p q))
-    & (λ g x y p q. event_one _ _ (same p q))
-    & (λ g x y. same)
-    & (λ g x y p q. contract_one _ _ (same p q))
-    & (λ g x y. same) & (λ g x y. same) & (λ g x y. same) & (λ g x y. same) & (λ g x y. same) & (λ g x y. same)
-    & (λ g x y. same) & (λ g x y. same) & (λ g x y. same) & (λ g x y. same) & (λ g x y. same) & (λ g x y. same)
-    & (λ g x y. same) & (λ g x y. same)
-    & (λ g x y. same_by (λ r. choose r (spelt (length g.1.1.0.now) g.1.0.now) g.1.1.0.now))
+    & (λ g x y. same) & (λ g x y. same_by (λ r. choose r (spelt (length g.1.1.0.now) g.1.0.now) g.1.1.0.now))
     & tt
 
 -- What is told has one of some numbers or 0, a field's name only if the refusal is a field's own, and leaves what was there where
@@ -308,10 +360,10 @@ all_sound : All Proper operations
 unfolding operations
 all_sound =
     (λ g x p. (refl, refl, λ some. refl)) & (λ g x p. (refl, refl, λ some. refl))
-    & (λ g x p. read (λ r. refused_by (environment_told r)) (λ a. refl) (λ r. refl) (environment_one x.0 _ p) (environment_comes g.1.0.now))
+    & (λ g x p. read (λ r. refused_by (environment_told r)) (λ a. refl) (λ r. refl) (environment_one (heard x.0) _ p) (environment_comes g.1.0.now))
     & (λ g x p. wrote g.1.0.now p (environment_write_comes g.1.0.now g.1.1.0))
     & (λ g x p. (refl, refl, λ some. refl)) & (λ g x p. (refl, refl, λ some. refl))
-    & (λ g x p. read (λ r. refused_by (event_told r)) (λ a. refl) (λ r. refl) (event_one x.0 _ p) (event_comes g.1.0.now))
+    & (λ g x p. read (λ r. refused_by (event_told r)) (λ a. refl) (λ r. refl) (event_one (heard x.0) _ p) (event_comes g.1.0.now))
     & (λ g x p. wrote g.1.0.now p (event_write_comes g.1.0.now g.1.1.0))
     & (λ g x p. (refl, refl, λ some. refl)) & (λ g x p. (refl, refl, λ some. refl)) & (λ g x p. (refl, refl, λ some. refl))
     & (λ g x p. read (λ (r : HolderRead). r.refusal) (λ a. refl) (λ r. refl) p (holder_comes g.1.0.now))
@@ -326,15 +378,15 @@ all_sound =
     & (λ g x p. read (λ (r : SpecialRead). r.refusal) (λ a. refl) (λ r. refl) p (special_comes g.1.1.0 g.1.0.now))
     & (λ g x p. wrote g.1.0.now p (special_write_comes g.1.1.0 g.1.1.1.0 g.1.0.now))
     & (λ g x p. (refl, refl, λ some. refl)) & (λ g x p. (refl, refl, λ some. refl))
-    & (λ g x p. read (λ r. refused_by (contract_told r)) (λ a. refl) (λ r. refl) (contract_one x.0 _ p) (contract_comes g.1.1.0 g.1.0.now))
+    & (λ g x p. read (λ r. refused_by (contract_told r)) (λ a. refl) (λ r. refl) (contract_one (heard x.0) _ p) (contract_comes g.1.1.0 g.1.0.now))
     & (λ g x p. wrote g.1.0.now p (contract_write_comes g.1.1.0 g.1.1.1.0 g.1.0.now))
     & (λ g x p. (refl, refl, λ some. refl)) & (λ g x p. (refl, refl, λ some. refl)) & (λ g x p. (refl, refl, λ some. refl))
     & (λ g x p. (refl, refl, λ some. refl)) & (λ g x p. (refl, refl, λ some. refl)) & (λ g x p. (refl, refl, λ some. refl))
     & (λ g x p. (refl, refl, λ some. refl))
-    & (λ g x p. read (λ r. refused_by (bip_told r)) (λ a. refl) (λ r. refl) (bip_one x.0 _ p) (bip_comes g.1.0.now))
+    & (λ g x p. read (λ r. refused_by (bip_told r)) (λ a. refl) (λ r. refl) (bip_one (heard x.0) _ p) (bip_comes g.1.0.now))
     & (λ g x p. wrote g.1.0.now p (bip_write_comes g.1.0.now g.1.1.0))
     & (λ g x p. read (λ (r : Selection). r.refusal) (λ a. refl) (λ r. refl) p (select_comes _ _ _ _ _ _))
-    & (λ g x p. (refl, refl, λ some. refl)) & (λ g x p. (refl, refl, λ some. refl))
+    & (λ g x p. (refl, refl, λ some. refl))
     & (λ g x p. wrote g.1.0.now p (change_comes _ _ _ _ _))
     & (λ g x p. sound (λ (t : Outcome). t.answer.refusal) (λ t. t.list ∷ t.file ∷ []) _ (λ a. refl) (λ r. (refl, refl)) p (load_comes _ _ _ _))
     & (λ g x p. sound (λ (t : passage.Outcome). t.answer.refusal) (λ t. t.list ∷ t.journal ∷ []) _ (λ a. refl) (λ r. (refl, refl)) p (pass_comes _ _ _ _))
@@ -342,10 +394,10 @@ all_sound =
     & (λ g x p. wrote g.1.1.1.0.now p (find_comes _ _ _))
     & (λ g x p. wrote g.1.1.1.0.now p (join_comes _ _ _))
     & (λ g x p. (refl, refl, λ some. refl)) & (λ g x p. (refl, refl, λ some. refl)) & (λ g x p. (refl, refl, λ some. refl))
-    & (λ g x p. read (λ r. refused_by (environment_told r)) (λ a. refl) (λ r. refl) (environment_one x.0 _ p) (environment_comes g.1.0.now))
-    & (λ g x p. read (λ r. refused_by (event_told r)) (λ a. refl) (λ r. refl) (event_one x.0 _ p) (event_comes g.1.0.now))
+    & (λ g x p. read (λ r. refused_by (environment_told r)) (λ a. refl) (λ r. refl) (environment_one (heard x.0) _ p) (environment_comes g.1.0.now))
+    & (λ g x p. read (λ r. refused_by (event_told r)) (λ a. refl) (λ r. refl) (event_one (heard x.0) _ p) (event_comes g.1.0.now))
     & (λ g x p. read (λ (r : HolderRead). r.refusal) (λ a. refl) (λ r. refl) p (holder_comes g.1.0.now))
-    & (λ g x p. read (λ r. refused_by (contract_told r)) (λ a. refl) (λ r. refl) (contract_one x.0 _ p) (contract_comes g.1.1.0 g.1.0.now))
+    & (λ g x p. read (λ r. refused_by (contract_told r)) (λ a. refl) (λ r. refl) (contract_one (heard x.0) _ p) (contract_comes g.1.1.0 g.1.0.now))
     & (λ g x p. read (λ (r : ListRead). r.refusal) (λ a. refl) (λ r. refl) p (list_comes g.1.1.0 g.1.1.1.0 g.1.0.now))
     & (λ g x p. read (λ (r : SpecialRead). r.refusal) (λ a. refl) (λ r. refl) p (special_comes g.1.1.0 g.1.0.now))
     & (λ g x p. (refl, refl, λ some. refl)) & (λ g x p. (refl, refl, λ some. refl)) & (λ g x p. (refl, refl, λ some. refl))

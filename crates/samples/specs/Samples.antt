@@ -306,12 +306,12 @@ samples =
     (record { answer = unselected (refusal 11 0); list = 0x1C084C1 and 51 zeros; journal = [] })
     -- 02, Q-4, and 000, section 3.2.1: a tariff of 0123h stands as 01h, 23h; 3.4: 1/1/2012, 382980h minutes after 1/1/2005, stands as C7D67Fh. The
     -- tag is A000h, which as another tag is 7, and so is a date of four bytes. All bytes are legal: zeros are the last dates and tag 0.
-    ∷ bip_reads (0x1A020005_01230ABCDE_C7D67F_BFCBC0_1F_11223344_000102_A000_DEADBEEF and 0 zeros) (bip.Ok (yearly from2012 to2012 Nothing))
+    ∷ bip_reads (0x1A020005_01230ABCDE_C7D67F_BFCBC0_1F_11223344_000102_A000_DEADBEEF and 0 zeros) (Ok (yearly from2012 to2012 Nothing))
     ∷ bip_writes (yearly from2012 to2012 Nothing) (replicate 29 255)
     (accepted (0x1A020005_01230ABCDE_C7D67F_BFCBC0_1F_11223344_000102_A000_DEADBEEF and 0 zeros))
     ∷ bip_writes (yearly from2012 to2012 (Tag 0xA000)) (replicate 29 255) (unfit 184 11)
     ∷ bip_writes (yearly from2012 (2 ^ 24) (Tag 0xA000)) (replicate 29 255) (unfit 96 7)
-    ∷ bip_reads (replicate 28 0) (bip.Err (refusal 1 0))
+    ∷ bip_reads (replicate 28 0) (Err (refusal 1 0))
     -- Slip: treating "oldest" as the lowest pointer: with pointers listed 1 2 7 3 5 6 8 4 and 5 to 8 erasable, the plain one to
     -- take is 7.
     ∷ places 8 4 false
