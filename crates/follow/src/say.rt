@@ -66,7 +66,10 @@ fn pace(row: u64) -> u32 {
 }
 
 pub fn refused(rt: &impl Print, state: State, number: u32) -> io::Result<()> {
-    println!(rt; "refused with {number}, place {}, field {}", state.start, state.row)
+    println!(rt;
+        "refused with {number}, place {}, field {}",
+        state.start, state.row
+    )
 }
 
 // The margin, from a place on.
