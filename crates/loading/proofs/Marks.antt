@@ -133,9 +133,9 @@ module _ (named : ℕ → List Event → ℕ → Bool) (names : ℕ → Event �
       })
 
 -- What was read of a part of a file is its record.
-pub part_read : (file : List ℕ) (i : ℕ) {r x : EventRead} → event_told r ≡ event_told (event_read (take (29 * i + 29 - 29 * i) (drop (29 * i) file))) → r ≡ x
-    → event_read (record_from file i) ≡ x
-part_read file i e f = let size : 29 * i + 29 - 29 * i ≡ 29 = omega arith in sym (event_one _ _ (rw size at e)) ∙ f
+pub part_read : (file : List ℕ) (i : ℕ) (r : EventRead) → event_told r ≡ event_told (event_read (take (29 * i + 29 - 29 * i) (drop (29 * i) file)))
+    → event_read (record_from file i) ≡ r
+part_read file i r e = let size : 29 * i + 29 - 29 * i ≡ 29 = omega arith in sym (event_one r _ (rw size at e))
 
 -- The time, in other words.
 pub at_time : (attempt : Attempt (List Event)) (codes : List ℕ) {time moment : ℕ} (hours : ℕ) {before after : List Bool} {r : Answer} → time ≡ moment

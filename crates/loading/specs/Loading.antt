@@ -1,19 +1,16 @@
 -- Loading, over bytes. Document 01, "Where a new contract goes" and "Refusal numbers"; 02, Q-3.
-use Rattle.std.specs.Prelude.{ℕ, ◌+◌, ◌-◌, ◌*◌, ◌/◌, ◌%◌, ◌^◌, Bool, not, ◌&&◌, List, ◌++◌, eqb, ltb, leb, length, take, drop}
+use Rattle.std.specs.Prelude.{ℕ, ◌+◌, ◌-◌, ◌*◌, ◌/◌, ◌%◌, ◌^◌, Bool, not, ◌&&◌, List, ◌++◌, eqb, ltb, leb, length, take, drop, Result, Ok, Err}
 use Rattle.rows.specs.Row.{pick}
-use Rattle.records.specs.Answer.{Written, refusal}
+use Rattle.records.specs.Answer.{Answer, Written, as_answer, refusal}
+use Rattle.records.specs.declared.Refusal.{Refusal}
 use Rattle.records.specs.Order.{Attempt, got, stopped, next, needs, events}
-use Rattle.records.specs.Answer.{Answer}
 use Rattle.lists.specs.List.{list_read, list_written}
 use Rattle.lists.specs.Entries.{counted, listing, attempted}
-use Rattle.lists.specs.Special.{special_read}
+use Rattle.lists.specs.Special.{SpecialRead, special_read}
 use Rattle.lists.specs.declared.list.Entry.{Entry}
 use Rattle.lists.specs.declared.special.SpecialEntry.{SpecialEntry}
-use Rattle.lists.specs.Special.{SpecialRead}
-use Rattle.contract.specs.Contract.{contract_read}
+use Rattle.contract.specs.Contract.{ContractRead, contract_read}
 use Rattle.contract.specs.declared.Contract.{Contract}
-use Rattle.contract.specs.Contract.{ContractRead}
-use Rattle.std.specs.Prelude.{Ok, Err}
 use Rattle.loading.specs.Blocking.{moment, blocked}
 use Rattle.loading.specs.Place.{place, afterwards}
 use Rattle.loading.specs.declared.Order.{Order}
@@ -126,6 +123,16 @@ lengths_of list file lent =
 unfoldable pub finding : Order → List ℕ → List ℕ → Lent → Attempt Found
 finding o list file lent =
     needs (lengths o (lengths_of list file lent)) 1 (needs (limits o (length lent.journal / 29)) 11 (placing o list lent))
+
+-- The answer: the refusal, and the pointer of the new contract, 0 where refused.
+pub record Loaded : Type 0 where
+  pub refusal : Answer
+  pub pointer : ℕ
+
+-- The answer that code gives.
+abbrev pub loaded_answer : Result ℕ Refusal → Loaded
+loaded_answer (Ok p) = record { refusal = refusal 0 0; pointer = p }
+loaded_answer (Err r) = record { refusal = as_answer r; pointer = 0 }
 
 -- What loading leaves: the answer, the contract list and the contract file.
 pub record Outcome : Type 0 where

@@ -1,5 +1,6 @@
 // Which pointers the events block.
 ghost use Rattle.std.specs.Prelude.{◌≡◌, ◌&&◌, ◌*◌, ◌/◌, eqb, length, take};
+ghost use Rattle.records.specs.Answer.{answer_of};
 ghost use Rattle.records.specs.Order.{events};
 ghost use Rattle.loading.specs.Blocking.{some, moment, journey, recent, blocks, listed, named_by_special};
 ghost use Rattle.loading.specs.Loading.{blocking};
@@ -8,7 +9,7 @@ ghost use Rattle.loading.specs.Inner.Marks.{Added, Marking};
 use crate::Order;
 use lists::special;
 use lists::special::SpecialList;
-use records::event::{Event, EventRead};
+use records::event::Event;
 use records::{BYTES, Refusal, event};
 
 // Reads the special event list, the journal and all special event records, and marks the pointers that they block. There is a
@@ -20,52 +21,46 @@ pub fn mark_all(
     codes: &[u8],
     order: Order,
     marks: &mut [bool],
-) -> Refusal
+) -> Result<(), Refusal>
     requires { (length marks.old ≡ 9) × (length records.now ≡ 29 * order.s) }
-    ensures { Marking (blocking order special.now journal.now records.now codes.now) (λ blocked. blocked) marks.old marks.new result }
+    ensures { Marking (blocking order special.now journal.now records.now codes.now) (λ blocked. blocked) marks.old marks.new (answer_of result) }
 {
-    let read = special::read(special, order.s);
-    if read.refusal.number != 0 {
-        return read.refusal;
-    }
+    let list = special::read(special, order.s)?;
     let time = moment(order.day, order.minute);
-    let refusal = mark_journal(journal, codes, time, order.hours, marks);
-    if refusal.number != 0 {
-        return refusal;
-    }
-    mark_special(records, read.list, marks)
+    mark_journal(journal, codes, time, order.hours, marks)?;
+    mark_special(records, list, marks)
 }
 
-fn mark_journal(journal: &[u8], codes: &[u8], time: u64, hours: u32, marks: &mut [bool]) -> Refusal
+fn mark_journal(
+    journal: &[u8],
+    codes: &[u8],
+    time: u64,
+    hours: u32,
+    marks: &mut [bool],
+) -> Result<(), Refusal>
     requires { length marks.old ≡ 9 }
-    ensures { Marking (events (length journal.now / 29) journal.now 0) (λ es p. some (blocks codes.now time hours p) es) marks.old marks.new result }
+    ensures { Marking (events (length journal.now / 29) journal.now 0) (λ es p. some (blocks codes.now time hours p) es) marks.old marks.new (answer_of result) }
 {
     let n = journal.len() / BYTES;
     for i in 0..n {
-        match event::read(&journal[BYTES * i..BYTES * i + BYTES]) {
-            EventRead::Read(event) => {
-                let blocks = journey(event, codes) & recent(event, time, hours);
-                mark(event.pointer, blocks, marks);
-            }
-            EventRead::Refused(refusal) => return refusal,
-        }
+        let event = event::read(&journal[BYTES * i..BYTES * i + BYTES])?;
+        let blocks = journey(event, codes) & recent(event, time, hours);
+        mark(event.pointer, blocks, marks);
     }
-    Refusal::NONE
+    Ok(())
 }
 
 // Every special event record is read, listed or not.
-fn mark_special(records: &[u8], list: SpecialList, marks: &mut [bool]) -> Refusal
+fn mark_special(records: &[u8], list: SpecialList, marks: &mut [bool]) -> Result<(), Refusal>
     requires { length marks.old ≡ 9 }
-    ensures { Marking (events (length records.now / 29) records.now 0) (λ es p. named_by_special (take list.count list.entries) p 1 es) marks.old marks.new result }
+    ensures { Marking (events (length records.now / 29) records.now 0) (λ es p. named_by_special (take list.count list.entries) p 1 es) marks.old marks.new (answer_of result) }
 {
     let n = records.len() / BYTES;
     for i in 0..n {
-        match event::read(&records[BYTES * i..BYTES * i + BYTES]) {
-            EventRead::Read(event) => mark(event.pointer, listed(list, i + 1), marks),
-            EventRead::Refused(refusal) => return refusal,
-        }
+        let event = event::read(&records[BYTES * i..BYTES * i + BYTES])?;
+        mark(event.pointer, listed(list, i + 1), marks);
     }
-    Refusal::NONE
+    Ok(())
 }
 
 // Marks the pointer that an event names, where it blocks. Simple rights have no mark.

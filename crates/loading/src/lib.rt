@@ -7,12 +7,12 @@ mod place;
 ghost use Rattle.std.specs.Prelude.{◌≡◌, List, ℕ, ◌*◌, ◌≤◌, length};
 ghost use Rattle.lists.specs.List.{list_read};
 ghost use Rattle.contract.specs.Contract.{contract_read};
+ghost use Rattle.records.specs.Answer.{answer_of};
 ghost use Rattle.loading.specs.Inner.Marks.{marked, refusal_of, Marking};
 ghost use Rattle.loading.specs.Inner.Store.{rest_read, file_after, stored, ended};
-ghost use Rattle.loading.specs.Loading.{Lent, Outcome, lengths, lengths_of, network_fits, entry_fits, limits, contract_got, new_entry, placed, loading};
+ghost use Rattle.loading.specs.Loading.{Lent, Outcome, lengths, lengths_of, network_fits, entry_fits, limits, contract_got, new_entry, placed, loaded_answer, loading};
 ghost use Rattle.loading.specs.Inner.Unread.{unread};
 
-use contract::ContractRead;
 use lists::list;
 use lists::list::{ContractList, Entry};
 use lists::special::SpecialList;
@@ -39,13 +39,6 @@ pub struct Order {
     pub counter: bool,
 }
 
-// The pointer of the new contract, 0 where refused.
-#[derive(Clone, Copy)]
-pub struct Loaded {
-    pub refusal: Refusal,
-    pub pointer: u32,
-}
-
 // The lengths of all that is lent.
 #[derive(Clone, Copy, PartialEq, Eq, Debug)]
 struct Lengths {
@@ -66,16 +59,16 @@ impl Order {
     pub const CODE_BYTES: usize = 32;
 
     // The refusal that needs no reading: 1, 11, or none.
-    fn refused_unread(self, lent: Lengths) -> Refusal
-        ensures { result ≡ unread self lent }
+    fn refused_unread(self, lent: Lengths) -> Result<(), Refusal>
+        ensures { answer_of result ≡ unread self lent }
     {
         if !self.agrees(lent) {
-            return Refusal::WRONG_LENGTH;
+            return Err(Refusal::WRONG_LENGTH);
         }
         if !self.in_limits(lent.journal / BYTES) {
-            return Refusal::OUTSIDE_LIMITS;
+            return Err(Refusal::OUTSIDE_LIMITS);
         }
-        Refusal::NONE
+        Ok(())
     }
 
     fn agrees(self, lent: Lengths) -> bool
@@ -160,18 +153,8 @@ impl Lengths {
     }
 }
 
-impl Loaded {
-    fn refused(refusal: Refusal) -> Loaded
-        ensures { result ≡ record { refusal = refusal; pointer = 0 } }
-    {
-        Loaded {
-            refusal,
-            pointer: 0,
-        }
-    }
-}
-
-// Finds the place for a new contract, writes it there, and its entry to the contract list. Refused, both are as they were.
+// Finds the place for a new contract, writes it there, and its entry to the contract list: its pointer. Refused, both are as they
+// were.
 // The codes are 32 bytes, a bit for each event code, bit 0 for code 0: a journal event blocks only where its code's is one.
 pub fn load(
     list: &mut [u8],
@@ -182,23 +165,17 @@ pub fn load(
     new: &[u8],
     codes: &[u8],
     order: Order,
-) -> Loaded
-    ensures { record { answer = result; list = list.new; file = file.new }
+) -> Result<u32, Refusal>
+    ensures { record { answer = loaded_answer result; list = list.new; file = file.new }
         ≡ loading order list.old file.old (record { special = special.entry.now; journal = journal.now; records = records.now; new = new.now; codes = codes.now }) }
 {
     let lent = Lengths::of(list, file, special, journal, records, new, codes);
-    let unread = order.refused_unread(lent);
-    if unread.number != 0 {
-        return Loaded::refused(unread);
-    }
+    order.refused_unread(lent)?;
     let mut marks = [false; 9];
     let rest = read_rest(special, journal, records, new, codes, order, &mut marks);
-    let loaded = settle(list, rest, &marks, order);
-    if loaded.refusal.number != 0 {
-        return loaded;
-    }
-    put_new(file, new, order.kind, loaded.pointer);
-    loaded
+    let pointer = settle(list, rest, &marks, order)?;
+    put_new(file, new, order.kind, pointer);
+    Ok(pointer)
 }
 
 // Reads all but the contract list, in order: the events, marking the pointers that they block, and the new contract.
@@ -210,57 +187,51 @@ fn read_rest(
     codes: &[u8],
     order: Order,
     marks: &mut [bool],
-) -> Refusal
+) -> Result<(), Refusal>
     requires { (length marks.old ≡ 9) × (length records.now ≡ 29 * order.s) }
-    ensures { Marking (rest_read order (record { special = special.entry.now; journal = journal.now; records = records.now; new = new.now; codes = codes.now })) (λ blocked. blocked) marks.old marks.new result }
+    ensures { Marking (rest_read order (record { special = special.entry.now; journal = journal.now; records = records.now; new = new.now; codes = codes.now })) (λ blocked. blocked) marks.old marks.new (answer_of result) }
 {
-    let refusal = blocking::mark_all(special, journal, records, codes, order, marks);
-    if refusal.number != 0 {
-        return refusal;
-    }
-    match contract::read(new, order.kind) {
-        ContractRead::Read(_) => Refusal::NONE,
-        ContractRead::Refused(refusal) => refusal,
-    }
+    blocking::mark_all(special, journal, records, codes, order, marks)?;
+    contract::read(new, order.kind)?;
+    Ok(())
 }
 
 // What is to be done with the list when the rest is read. It is read last, so that no value of it waits while events and
 // contracts are read; its refusal still comes first.
-fn settle(list: &mut [u8], rest: Refusal, marks: &[bool], order: Order) -> Loaded
+fn settle(
+    list: &mut [u8],
+    rest: Result<(), Refusal>,
+    marks: &[bool],
+    order: Order,
+) -> Result<u32, Refusal>
     requires { (length marks.now ≡ 9) × (order.n ≤ 8) × (order.c ≤ order.n) }
-    ensures { (file new : List ℕ) → record { answer = result; list = list.new; file = file_after result new file }
-        ≡ ended order list.old file new rest (marked marks.now) (list_read order.n order.c list.old) }
+    ensures { (file new : List ℕ) → record { answer = loaded_answer result; list = list.new; file = file_after (loaded_answer result) new file }
+        ≡ ended order list.old file new (answer_of rest) (marked marks.now) (list_read order.n order.c list.old) }
 {
-    let read = list::read(list, order.n, order.c);
-    if read.refusal.number != 0 {
-        return Loaded::refused(read.refusal);
-    }
-    if rest.number != 0 {
-        return Loaded::refused(rest);
-    }
-    let Some(pointer) = place::place(read.list, marks, order) else {
-        return Loaded::refused(Refusal::NO_POSITION);
+    let old = list::read(list, order.n, order.c)?;
+    rest?;
+    let Some(pointer) = place::place(old, marks, order) else {
+        return Err(Refusal::NO_POSITION);
     };
-    store(list, read.list, pointer, order)
+    store(list, old, pointer, order)
 }
 
 // The same when the pointer is known: the list without its entry and with the new one.
-fn store(list: &mut [u8], old: ContractList, pointer: u32, order: Order) -> Loaded
+fn store(
+    list: &mut [u8],
+    old: ContractList,
+    pointer: u32,
+    order: Order,
+) -> Result<u32, Refusal>
     requires { 1 ≤ pointer }
-    ensures { (file new : List ℕ) → record { answer = result; list = list.new; file = file_after result new file }
+    ensures { (file new : List ℕ) → record { answer = loaded_answer result; list = list.new; file = file_after (loaded_answer result) new file }
         ≡ stored order list.old file old new pointer }
 {
     let renewed = old
         .without(order.c, pointer)
         .with(order.c, order.entry(pointer));
-    let refusal = list::write(list, order.n, order.c, renewed);
-    if refusal.number != 0 {
-        return Loaded::refused(refusal);
-    }
-    Loaded {
-        refusal: Refusal::NONE,
-        pointer,
-    }
+    list::write(list, order.n, order.c, renewed)?;
+    Ok(pointer)
 }
 
 // Writes the new contract to its pointer's place. It was read before, and is read again: its value did not wait while the list was
@@ -269,9 +240,9 @@ fn put_new(file: &mut [u8], new: &[u8], kind: u32, pointer: u32)
     requires { (1 ≤ pointer) × (29 * pointer ≤ length file.old) × (length new.now ≡ 29) × ((refusal_of (contract_got (contract_read kind new.now))).number ≡ 0) }
     ensures { file.new ≡ placed pointer new.now file.old }
 {
-    let ContractRead::Read(contract) = contract::read(new, kind) else {
+    let Ok(contract) = contract::read(new, kind) else {
         return;
     };
     let start = BYTES * (pointer as usize - 1);
-    contract::write(&mut file[start..start + BYTES], kind, contract);
+    let _ = contract::write(&mut file[start..start + BYTES], kind, contract);
 }

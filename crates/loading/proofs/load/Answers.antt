@@ -1,3 +1,4 @@
+use Rattle.std.proofs.Common.{Err, rules}
 use Rattle.loading.specs.Loading.{Lent, lengths_of}
 use Rattle.loading.specs.Inner.Unread.{unread}
 use Rattle.loading.proofs.Ending.{Card, unread_none, refused_unread, ends, accepts}
@@ -5,9 +6,10 @@ use mathlib.Core.Path.{◌≡◌, refl, sym, ap, ◌∙◌}
 use mathlib.Core.List.{List}
 use Prim.Native.Nat.{ℕ}
 use Rattle.records.specs.Answer.{Answer}
+use Rattle.rows.proofs.Stepping.{numbered}
 use Rattle.loading.specs.declared.Order.{Order}
 use Rattle.loading.specs.declared.Lengths.{Lengths}
-use borrow.Author.Tests.{eq-eqb, ne_eqb}
+use borrow.Author.Tests.{ne_eqb}
 use Rattle.loading.proofs.load.Goals as goal
 
 -- What is refused unread, by the lengths of what is lent.
@@ -21,34 +23,35 @@ card_of : (o : Order) (list file : List ℕ) (lent : Lent) (l : Lengths) (r : An
 card_of o list file lent l r of is none =
     unread_none o list file lent (ap (λ (x : Answer). x.number) (sym (asked o list file lent l r of is)) ∙ none)
 
-pub returns-then-unread-ne0 : goal.returns-then-unread-ne0
-returns-then-unread-ne0 c = rw c.refused.ensures (refused_unread _ _ _ _ _ (asked c.args.order _ _ _ _ _ c.of-lent.ensures c.refused_unread-unread.ensures) c.if-unread-ne0.true)
+pub returns-in_err-refused_unread : goal.returns-in_err-refused_unread
+returns-in_err-refused_unread c =
+    let is : c.from_residual.result ≡ Err c.in_err-refused_unread.field-0.0 = search rules in
+    rw is (refused_unread _ _ _ _ _ (asked c.args.order _ _ _ _ _ c.of-lent.ensures c.in_err-refused_unread.ensures) (numbered _))
 
 pub read_rest-rest-requires : goal.read_rest-rest-requires
 read_rest-rest-requires c =
-    let card = card_of c.args.order _ _ _ _ _ c.of-lent.ensures c.refused_unread-unread.ensures c.if-unread-ne0.false in
+    let card = card_of c.args.order _ _ _ _ _ c.of-lent.ensures c.in_ok-refused_unread.ensures refl in
     (refl, card.records_long)
 
-pub settle-loaded-requires : goal.settle-loaded-requires
-settle-loaded-requires c =
-    let card = card_of c.args.order _ _ _ _ _ c.of-lent.ensures c.refused_unread-unread.ensures c.if-unread-ne0.false in
+pub settle-requires : goal.settle-requires
+settle-requires c =
+    let card = card_of c.args.order _ _ _ _ _ c.of-lent.ensures c.in_ok-refused_unread.ensures refl in
     (c.read_rest-rest.ensures.long, card.most, card.counters)
 
 -- Refused, the file is as it was.
-pub returns-then-loaded-ne0 : goal.returns-then-loaded-ne0
-returns-then-loaded-ne0 c =
-    let card = card_of c.args.order _ _ _ _ _ c.of-lent.ensures c.refused_unread-unread.ensures c.if-unread-ne0.false in
-    let done = c.settle-loaded.ensures c.args.file.now c.args.new.now in
-    (rw (ne_eqb _ _ c.if-loaded-ne0.true) at done) ∙ ends _ _ _ _ card _ refl c.read_rest-rest.ensures
+pub returns-in_err-pointer : goal.returns-in_err-pointer
+returns-in_err-pointer c =
+    let is : c.from_residual-in_err-pointer.result ≡ Err c.in_err-pointer.field-0.0 = search rules in
+    let card = card_of c.args.order _ _ _ _ _ c.of-lent.ensures c.in_ok-refused_unread.ensures refl in
+    let done = c.in_err-pointer.ensures c.args.file.now c.args.new.now in
+    rw is ((rw (ne_eqb _ _ (numbered c.in_err-pointer.field-0.0.why)) at done) ∙ ends _ _ _ _ card _ refl c.read_rest-rest.ensures)
 
 pub put_new-requires : goal.put_new-requires
 put_new-requires c =
-    let card = card_of c.args.order _ _ _ _ _ c.of-lent.ensures c.refused_unread-unread.ensures c.if-unread-ne0.false in
-    let done = c.settle-loaded.ensures c.args.file.now c.args.new.now in
-    accepts _ _ _ _ card _ done c.read_rest-rest.ensures c.if-loaded-ne0.false
+    let card = card_of c.args.order _ _ _ _ _ c.of-lent.ensures c.in_ok-refused_unread.ensures refl in
+    accepts _ _ _ _ card _ (c.in_ok-pointer.ensures c.args.file.now c.args.new.now) c.read_rest-rest.ensures refl
 
 pub returns : goal.returns
 returns c =
-    let card = card_of c.args.order _ _ _ _ _ c.of-lent.ensures c.refused_unread-unread.ensures c.if-unread-ne0.false in
-    let done = c.settle-loaded.ensures c.args.file.now c.args.new.now in
-    rw c.put_new.ensures ((rw (eq-eqb _ _ c.if-loaded-ne0.false) at done) ∙ ends _ _ _ _ card _ refl c.read_rest-rest.ensures)
+    let card = card_of c.args.order _ _ _ _ _ c.of-lent.ensures c.in_ok-refused_unread.ensures refl in
+    rw c.put_new.ensures (c.in_ok-pointer.ensures c.args.file.now c.args.new.now ∙ ends _ _ _ _ card _ refl c.read_rest-rest.ensures)

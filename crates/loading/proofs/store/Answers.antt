@@ -1,12 +1,15 @@
+use Rattle.std.proofs.Common.{◌≡◌, Err, rules}
+use mathlib.Core.Path.{refl}
 use native.Mathlib.Omega.{arith}
+use Rattle.rows.proofs.Stepping.{numbered}
 use Rattle.loading.proofs.Storing.{store_refused, store_done}
 use Rattle.loading.proofs.store.Goals as goal
 
-pub returns-then-refusal-ne0 : goal.returns-then-refusal-ne0
-returns-then-refusal-ne0 c file new =
-    rw c.refused.ensures
-    (store_refused _ _ _ _ _ _ (λ z. omega arith) c.without.ensures c.entry.ensures c.with-renewed.ensures c.write-refusal.ensures c.if-refusal-ne0.true)
+pub returns-in_err-write : goal.returns-in_err-write
+returns-in_err-write c file new =
+    let is : c.from_residual.result ≡ Err c.in_err-write.field-0.0 = search rules in
+    rw is (store_refused _ _ _ _ _ _ (λ z. omega arith) c.without.ensures c.entry.ensures c.with-renewed.ensures c.in_err-write.ensures (numbered _))
 
 pub returns : goal.returns
 returns c file new =
-    store_done _ _ _ _ _ _ (λ z. omega arith) c.without.ensures c.entry.ensures c.with-renewed.ensures c.write-refusal.ensures c.if-refusal-ne0.false
+    store_done _ _ _ _ _ _ (λ z. omega arith) c.without.ensures c.entry.ensures c.with-renewed.ensures c.in_ok-write.ensures refl
