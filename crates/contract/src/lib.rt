@@ -17,7 +17,7 @@ use rows::take::Part;
 use rows::{Cursor, When, margin, put, take};
 
 // The data of type 42h.
-#[derive(Clone, Copy, Debug, PartialEq, Eq)]
+#[derive(Clone, Copy, Debug, Default, PartialEq, Eq)]
 pub struct Data42 {
     pub pay_method: u32,
     pub price: u32,
@@ -31,7 +31,7 @@ pub struct Data42 {
 }
 
 // The data of type 50h.
-#[derive(Clone, Copy, Debug, PartialEq, Eq)]
+#[derive(Clone, Copy, Debug, Default, PartialEq, Eq)]
 pub struct Data50 {
     pub end_date: u32,
     pub grey_list: u32,
@@ -177,19 +177,6 @@ fn part<const N: usize>(numbers: &[u32; 45], i: usize) -> [u32; N]
 }
 
 impl Data42 {
-    // Every number zero.
-    const NONE: Data42 = Data42 {
-        pay_method: 0,
-        price: 0,
-        sale_date: 0,
-        sale_minute: 0,
-        agent: 0,
-        device: 0,
-        receipt: 0,
-        passengers: 0,
-        inhibition_end: 0,
-    };
-
     // Their numbers in card order.
     pub fn numbers(self) -> [u32; 9]
         ensures { result ≡ numbers42 self }
@@ -225,46 +212,6 @@ impl Data42 {
 }
 
 impl Data50 {
-    // Every number zero.
-    const NONE: Data50 = Data50 {
-        end_date: 0,
-        grey_list: 0,
-        chrono: 0,
-        flag: 0,
-        bitmap: 0,
-        agent: 0,
-        origin: 0,
-        destination: 0,
-        via: 0,
-        token1: 0,
-        token2: 0,
-        autoload_start: 0,
-        autoload_end: 0,
-        balance: 0,
-        last_debit: 0,
-        purse: 0,
-        debit: 0,
-        passengers: 0,
-        period_end: 0,
-        period_balance: 0,
-        zone1: 0,
-        zone2: 0,
-        zone3: 0,
-        sections: 0,
-        sections_left: 0,
-        stop1: 0,
-        stop2: 0,
-        stop3: 0,
-        stop4: 0,
-        line1: 0,
-        line2: 0,
-        weekly: 0,
-        start_date: 0,
-        end_minute: 0,
-        token: 0,
-        intermodal: 0,
-    };
-
     // Their numbers in card order.
     pub fn numbers(self) -> [u32; 36]
         ensures { result ≡ numbers50 self }
@@ -516,7 +463,7 @@ fn take_terms(words: &[u64], c: Cursor, bitmap: u32) -> Part<Data50>
             origin: origin.number,
             destination: destination.number,
             via: via.number,
-            ..Data50::NONE
+            ..Data50::default()
         },
         last: via,
     }
@@ -703,7 +650,7 @@ fn carnet(data: Data) -> Data42
 {
     match data {
         Data::Carnet(d) => d,
-        _ => Data42::NONE,
+        _ => Data42::default(),
     }
 }
 
@@ -712,7 +659,7 @@ fn urban(data: Data) -> Data50
 {
     match data {
         Data::Urban(d) => d,
-        _ => Data50::NONE,
+        _ => Data50::default(),
     }
 }
 
