@@ -2,7 +2,7 @@
 -- refusal has one of a few numbers, names a field only with 2, 3, 4 or 7, and changes nothing that was lent. Document 01, "What
 -- the contracts must say"; 02, Q-2. The contracts are the code's own: `Learnt` of a function is its `ensures`, as a caller has it.
 use Prim.Native.Nat.{ℕ}
-use Rattle.std.specs.Prelude.{Result, Ok, Err}
+use Rattle.std.specs.Prelude.{Result}
 use mathlib.Core.Bool.{Bool, true, false}
 use mathlib.Core.List.{List, [], ◌∷◌}
 use mathlib.Core.Path.{◌≡◌, refl, sym, ap, subst, ◌∙◌}
@@ -27,7 +27,7 @@ use Rattle.holder.specs.declared.Holder.{Holder}
 use Rattle.lists.specs.declared.list.ContractList.{ContractList}
 use Rattle.lists.specs.declared.special.SpecialList.{SpecialList}
 use Rattle.lab.proofs.Answers.{state_one}
-use Rattle.loading.specs.Loading.{Outcome, Loaded, loaded_answer}
+use Rattle.loading.specs.Loading.{Outcome, loaded_answer}
 use Rattle.passage.specs.Passage as passage
 use Rattle.text.specs.Hex.{choose, spelt}
 use Rattle.records.proofs.Telling.{environment_one, event_one, heard_one, result_one, written_one}

@@ -23,4 +23,3 @@ returns c =
           ◂ given;
       ready = c.number.ensures.ready;
     }
-
