@@ -1,5 +1,5 @@
 // Contract, of type 42h or 50h.
-#![tactic(auto, using(records::proofs::Following::took_ready, records::proofs::Following::gave_ready, records::proofs::Following::gave_long))]
+#![tactic(auto, using(rows::proofs::Ready::took_ready, rows::proofs::Ready::gave_ready, rows::proofs::Ready::gave_long))]
 
 ghost use Rattle.std.specs.Prelude.{◌≡◌, Bool, List, [], ◌∷◌, ◌++◌, ℕ, ◌+◌, ◌≤◌, length, take, drop};
 ghost use Rattle.rows.specs.Inner.Step.{Ready, Drafted};
@@ -79,7 +79,7 @@ pub enum Data {
     Urban(Data50),
 }
 
-#[derive(Clone, Copy)]
+#[derive(Clone, Copy, Debug, PartialEq, Eq)]
 pub struct Contract {
     pub bitmap: u32,
     pub provider: u32,

@@ -319,14 +319,14 @@ impl ContractList {
 }
 
 // What the rule and the tally ask of a list's entries.
-#[derive(Clone, Copy)]
+#[derive(Clone, Copy, Debug, PartialEq, Eq)]
 struct Recount {
     judged: Judged,
     spent: Spent,
 }
 
 // An entry's tariff and pointer.
-#[derive(Clone, Copy)]
+#[derive(Clone, Copy, Debug, PartialEq, Eq)]
 struct Rest {
     key: u32,
     kind: u32,

@@ -10,7 +10,7 @@ use rows::{Cursor, Why};
 pub const COUNT_BITS: u32 = 4;
 
 // How the entries so far keep the rule.
-#[derive(Clone, Copy)]
+#[derive(Clone, Copy, Debug, PartialEq, Eq)]
 pub struct Judged {
     pub used: u32, // their pointers, bit pointer - 1
     // the number, from 1, of the first entry that does not keep the rule, or 0; as an Option it takes list::read 842 instructions, not 832

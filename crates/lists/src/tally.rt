@@ -128,7 +128,7 @@ impl Tally {
 }
 
 // How many of some entries are used up, and how many of those are on counter positions.
-#[derive(Clone, Copy)]
+#[derive(Clone, Copy, Debug, PartialEq, Eq)]
 pub(crate) struct Spent {
     pub(crate) all: u32,
     pub(crate) counter: u32,

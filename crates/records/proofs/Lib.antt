@@ -2,4 +2,3 @@ pub mod Answering
 pub mod Inverse
 pub mod Coming
 pub mod Telling
-pub mod Following

@@ -12,7 +12,7 @@ use rows::margin::Margin;
 use rows::take::Part;
 use rows::{Cursor, When, margin, put, take};
 
-#[derive(Clone, Copy)]
+#[derive(Clone, Copy, Debug, PartialEq, Eq)]
 pub struct Environment {
     pub version: u32,
     pub bitmap: u32,

@@ -14,7 +14,7 @@ use rows::take::Part;
 use rows::{Cursor, When, margin, put, take};
 
 // Element [17] can never fit: it has no number here.
-#[derive(Clone, Copy)]
+#[derive(Clone, Copy, Debug, PartialEq, Eq)]
 pub struct Event {
     pub date: u32,
     pub minute: u32,

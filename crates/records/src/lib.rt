@@ -1,5 +1,5 @@
 // The records of a card as values: each structure is read from lent bytes and written to them.
-#![tactic(auto)]
+#![tactic(auto, using(rows::proofs::Ready::took_ready, rows::proofs::Ready::gave_ready, rows::proofs::Ready::gave_long))]
 
 ghost use Rattle.std.specs.Prelude.{◌≡◌};
 ghost use Rattle.rows.specs.Inner.Standing.{stand};

@@ -14,3 +14,4 @@ pub mod Putting
 pub mod Refusing
 pub mod Sound
 pub mod Naming
+pub mod Ready

@@ -41,7 +41,7 @@ impl Why {
 // Where a walk over a record or area stands. After a refusal it stays there. It counts the fields that it has come to, absent ones
 // too: so many is the rank of the next field, and once one is at fault, that is the last counted. 5, 6 and the 7
 // of a margin are of no field: 0.
-#[derive(Clone, Copy)]
+#[derive(Clone, Copy, Debug, PartialEq, Eq)]
 pub struct Cursor {
     pub at: u32, // the bit reached: the place of the refusal, once there is one
     pub why: Option<Why>, // its refusal
@@ -50,7 +50,7 @@ pub struct Cursor {
 }
 
 // When a field is there.
-#[derive(Clone, Copy)]
+#[derive(Clone, Copy, Debug, PartialEq, Eq)]
 pub enum When {
     Always,
     Bit(u32, u32), // a bitmap's number and the element, [0] being its last bit
@@ -58,7 +58,7 @@ pub enum When {
 }
 
 // What the numbers of a field must keep to.
-#[derive(Clone, Copy)]
+#[derive(Clone, Copy, Debug, PartialEq, Eq)]
 pub enum Rule {
     Any,
     Most(u32), // at most so much, else 4

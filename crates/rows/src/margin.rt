@@ -8,7 +8,7 @@ ghost use Rattle.rows.specs.Inner.Step.{Drafted, Kept};
 use crate::{Cursor, Why};
 
 // The margin of a record, in words of 64 bits that are named by their first bit. The last holds 24 bits that no record has.
-#[derive(Clone, Copy)]
+#[derive(Clone, Copy, Debug, PartialEq, Eq)]
 pub struct Margin {
     pub at0: u64,
     pub at64: u64,

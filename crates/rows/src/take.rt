@@ -6,14 +6,14 @@ ghost use Rattle.rows.specs.Inner.Step.{Ready, Took, Ended, Spells, letters_at};
 use crate::{Cursor, Rule, When, Why, step};
 
 // What some fields of a record say, and the cursor behind the last of them.
-#[derive(Clone, Copy)]
+#[derive(Clone, Copy, Debug, PartialEq, Eq)]
 pub struct Part<T> {
     pub value: T,
     pub last: Cursor,
 }
 
 // A list's tariff, with the cursor behind it.
-#[derive(Clone, Copy)]
+#[derive(Clone, Copy, Debug, PartialEq, Eq)]
 pub struct ListTariff {
     pub cursor: Cursor,
     pub key: u32,

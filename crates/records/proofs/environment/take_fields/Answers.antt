@@ -1,4 +1,3 @@
-use lib.Dec.{lit≤}
 use Rattle.rows.specs.Inner.Line.{taken, ◌▸◌}
 use Rattle.rows.specs.Table.Environment.{environment}
 use Rattle.records.proofs.environment.take_fields.Goals as goal
@@ -21,30 +20,3 @@ returns c =
           ▸ taken;
       ready = c.number-card_status.ensures.ready;
     }
-
-pub number-bitmap-requires : goal.number-bitmap-requires
-number-bitmap-requires c = search lit≤
-
-pub number-network-requires : goal.number-network-requires
-number-network-requires c = search lit≤
-
-pub number-issuer-requires : goal.number-issuer-requires
-number-issuer-requires c = search lit≤
-
-pub number-end_date-requires : goal.number-end_date-requires
-number-end_date-requires c = search lit≤
-
-pub number-pay_method-requires : goal.number-pay_method-requires
-number-pay_method-requires c = search lit≤
-
-pub number-authenticator-requires : goal.number-authenticator-requires
-number-authenticator-requires c = search lit≤
-
-pub number-select_list-requires : goal.number-select_list-requires
-number-select_list-requires c = search lit≤
-
-pub env_data-data-requires : goal.env_data-data-requires
-env_data-data-requires c = search lit≤
-
-pub number-card_status-requires : goal.number-card_status-requires
-number-card_status-requires c = search lit≤

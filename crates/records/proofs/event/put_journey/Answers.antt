@@ -1,4 +1,3 @@
-use lib.Dec.{lit≤}
 use Rattle.rows.specs.Table.Event.{event}
 use Rattle.rows.proofs.Putting.{all_put, ◌◃◌, puts_from}
 use Rattle.rows.proofs.Running.{puts_long}
@@ -29,39 +28,3 @@ returns c =
           (lit≤ tt);
       ready = c.number.ensures.ready;
     }
-
-pub number-d-requires : goal.number-d-requires
-number-d-requires c = search lit≤
-
-pub number-d-requires-2 : goal.number-d-requires-2
-number-d-requires-2 c = search lit≤
-
-pub number-d-requires-3 : goal.number-d-requires-3
-number-d-requires-3 c = search lit≤
-
-pub number-d-requires-4 : goal.number-d-requires-4
-number-d-requires-4 c = search lit≤
-
-pub number-d-requires-5 : goal.number-d-requires-5
-number-d-requires-5 c = search lit≤
-
-pub number-d-requires-6 : goal.number-d-requires-6
-number-d-requires-6 c = search lit≤
-
-pub number-d-requires-7 : goal.number-d-requires-7
-number-d-requires-7 c = search lit≤
-
-pub number-d-requires-8 : goal.number-d-requires-8
-number-d-requires-8 c = search lit≤
-
-pub never-d-requires : goal.never-d-requires
-never-d-requires c = search lit≤
-
-pub number-d-requires-10 : goal.number-d-requires-10
-number-d-requires-10 c = search lit≤
-
-pub number-requires : goal.number-requires
-number-requires c = search lit≤
-
-pub shape_of-draft : goal.shape_of-draft
-shape_of-draft c = puts_long (returns c).puts
