@@ -41,9 +41,8 @@ fn mark_journal(
     requires { length marks.old ≡ 9 }
     ensures { Marking (events (length journal.now / 29) journal.now 0) (λ es p. some (blocks codes.now time hours p) es) marks.old marks.new (answer_of result) }
 {
-    let n = journal.len() / BYTES;
-    for i in 0..n {
-        let event = event::read(&journal[BYTES * i..BYTES * i + BYTES])?;
+    for record in journal.chunks_exact(BYTES) {
+        let event = event::read(record)?;
         let blocks = journey(event, codes) & recent(event, time, hours);
         mark(event.pointer, blocks, marks);
     }
@@ -55,9 +54,8 @@ fn mark_special(records: &[u8], list: SpecialList, marks: &mut [bool]) -> Result
     requires { length marks.old ≡ 9 }
     ensures { Marking (events (length records.now / 29) records.now 0) (λ es p. named_by_special (take list.count list.entries) p 1 es) marks.old marks.new (answer_of result) }
 {
-    let n = records.len() / BYTES;
-    for i in 0..n {
-        let event = event::read(&records[BYTES * i..BYTES * i + BYTES])?;
+    for (i, record) in records.chunks_exact(BYTES).enumerate() {
+        let event = event::read(record)?;
         mark(event.pointer, listed(list, i + 1), marks);
     }
     Ok(())
