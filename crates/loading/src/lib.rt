@@ -74,38 +74,38 @@ impl Order {
     fn agrees(self, lent: Lengths) -> bool
         ensures { result ≡ lengths self lent }
     {
-        (lent.list == BYTES)
-            & (lent.file == BYTES * self.n as usize)
-            & (lent.special == BYTES)
-            & (lent.journal % BYTES == 0)
-            & (lent.records == BYTES * self.s as usize)
-            & (lent.new == BYTES)
-            & (lent.codes == Order::CODE_BYTES)
+        lent.list == BYTES
+            && lent.file == BYTES * self.n as usize
+            && lent.special == BYTES
+            && lent.journal % BYTES == 0
+            && lent.records == BYTES * self.s as usize
+            && lent.new == BYTES
+            && lent.codes == Order::CODE_BYTES
     }
 
     fn in_limits(self, journal: usize) -> bool
         ensures { result ≡ limits self journal }
     {
-        (1 <= self.n)
-            & (self.n <= ContractList::MOST)
-            & (self.c <= ContractList::MOST_COUNTERS)
-            & (self.c <= self.n)
-            & (self.s <= SpecialList::MOST)
-            & (journal <= MOST_RECORDS)
-            & (self.day <= LAST_DAY)
-            & (self.minute <= LAST_MINUTE)
-            & (self.hours <= Order::MOST_HOURS)
-            & self.entry_in_limits()
+        1 <= self.n
+            && self.n <= ContractList::MOST
+            && self.c <= ContractList::MOST_COUNTERS
+            && self.c <= self.n
+            && self.s <= SpecialList::MOST
+            && journal <= MOST_RECORDS
+            && self.day <= LAST_DAY
+            && self.minute <= LAST_MINUTE
+            && self.hours <= Order::MOST_HOURS
+            && self.entry_in_limits()
     }
 
     fn entry_in_limits(self) -> bool
         ensures { result ≡ entry_fits self }
     {
-        (self.key <= Entry::LAST_KEY)
-            & (self.kind <= Entry::LAST_KIND)
-            & (self.priority <= Entry::LAST_PRIORITY)
-            & (self.priority != Entry::UNDEFINED)
-            & self.network_in_limits()
+        self.key <= Entry::LAST_KEY
+            && self.kind <= Entry::LAST_KIND
+            && self.priority <= Entry::LAST_PRIORITY
+            && self.priority != Entry::UNDEFINED
+            && self.network_in_limits()
     }
 
     // One that is absent is zero.
@@ -113,9 +113,10 @@ impl Order {
         ensures { result ≡ network_fits self }
     {
         if self.has_network {
-            return self.network < Entry::NETWORKS;
+            self.network < Entry::NETWORKS
+        } else {
+            self.network == 0
         }
-        self.network == 0
     }
 
     // The new entry.

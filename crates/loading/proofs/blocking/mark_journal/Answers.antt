@@ -1,6 +1,4 @@
 use Rattle.std.proofs.Common.{◌≡◌, Err, rules, refl, ◌∙◌, [], ◌∷◌}
-use mathlib.Core.Path.{ap₂}
-use mathlib.Core.Bool.{◌&&◌}
 use native.Mathlib.Omega.{arith}
 use lib.ListN.{length-append}
 use Rattle.loading.proofs.Marks.{passed_none, passed_more, passed_refused, passed_all, added_as}
@@ -22,9 +20,8 @@ pub loop-record-preserved : goal.loop-record-preserved
 loop-record-preserved c =
     let so = c.loop-record.invariant in
     let step = c.in-Some.ensures.steps in
-    let both = ap₂ ◌&&◌ c.journey.ensures c.recent.ensures in
     rw (length-append c.loop-record.yielded (c.in-Some.«record» ∷ []))
-    (step.0 ∙ so.0, passed_more _ _ _ _ _ _ _ _ so.1 step.1.0 (step.1.1 ∙ so.0) _ _ c.in_ok-event.ensures (added_as _ both c.mark.ensures))
+    (step.0 ∙ so.0, passed_more _ _ _ _ _ _ _ _ so.1 step.1.0 (step.1.1 ∙ so.0) _ _ c.in_ok-event.ensures (added_as _ c.is_blocking.ensures c.mark.ensures))
 
 pub returns : goal.returns
 returns c =
