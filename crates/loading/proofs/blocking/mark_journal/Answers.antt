@@ -4,11 +4,6 @@ use lib.ListN.{length-append}
 use Rattle.loading.proofs.Marks.{passed_none, passed_more, passed_refused, passed_all, added_as}
 use Rattle.loading.proofs.blocking.mark_journal.Goals as goal
 
-pub loop-record-init : goal.loop-record-init
-loop-record-init c =
-    let made = c.chunks_exact-record-items.ensures in
-    rw c.into_iter-record-iterator.ensures.into_iter_gives (made.size, passed_none _ _ (λ k p. refl) (λ k e es p. refl) _ _ made.rest)
-
 pub returns-in_err-event : goal.returns-in_err-event
 returns-in_err-event c =
     let is : c.from_residual.result ≡ Err c.in_err-event.field-0.0 = search rules in

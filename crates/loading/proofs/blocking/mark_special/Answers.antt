@@ -4,13 +4,6 @@ use native.Mathlib.Numerals.{add-one}
 use Rattle.loading.proofs.Marks.{passed_none, passed_more, passed_refused, passed_all, added_as}
 use Rattle.loading.proofs.blocking.mark_special.Goals as goal
 
-pub loop-i-init : goal.loop-i-init
-loop-i-init c =
-    let made = c.chunks_exact.ensures in
-    let counts = c.enumerate-i-items.ensures in
-    rw (c.into_iter-i-iterator.ensures.into_iter_gives, counts.count, counts.source)
-    (made.size, passed_none _ _ (λ k p. refl) (λ k e es p. refl) _ _ made.rest)
-
 pub returns-in_err-event : goal.returns-in_err-event
 returns-in_err-event c =
     let is : c.from_residual.result ≡ Err c.in_err-event.field-0.0 = search rules in
