@@ -2,14 +2,14 @@
 use Prim.Native.Nat.{ℕ, suc, ◌+◌, ◌-◌, ◌*◌, ◌/◌, ◌≤◌, ◌<◌}
 use mathlib.Core.Path.{◌≡◌, refl, sym, ap, subst, ◌∙◌}
 use mathlib.Core.List.{List, [], ◌∷◌, ◌++◌}
-use mathlib.Core.Bool.{Bool, true, false, ◌&&◌, ◌||◌, or-false, or-true, or_assoc}
+use mathlib.Core.Bool.{Bool, false, ◌&&◌, ◌||◌, or-false, or_assoc}
 use native.Mathlib.Omega.{arith}
 use native.Mathlib.Numerals.{add-one}
 use native.Mathlib.Nat.{sub-zero}
 use lib.Dec.{eqb}
-use lib.ListN.{length, set, take, drop, length-set, length-drop, length-append}
-use lib.Seq.{get_or-set_same, get_or-set_other, take_at, drop_at, drop-drop}
-use borrow.Author.Tests.{eqb-true, eqb-false, eq-eqb, ne_eqb}
+use lib.ListN.{length, take, drop, length-drop, length-append}
+use lib.Seq.{take_at, drop_at, drop-drop}
+use borrow.Author.Tests.{eq-eqb, ne_eqb}
 use Rattle.records.specs.Answer.{refusal}
 use Rattle.records.specs.Event.{event_told, event_read}
 use Rattle.records.proofs.Telling.{event_one}
@@ -32,36 +32,6 @@ use Rattle.loading.proofs.Told.{Stops, events_stop, blocking_stops}
 
 apart : {A : Type 0} {r : Answer} {a : A} → stopped r ≡ got a → ⊥
 apart e = let z : ◌≡◌ {A = ℕ} 0 1 = cc in omega arith
-
--- A mark that is set.
-pub added_one : (marks : List Bool) (pointer : ℕ) (blocks : Bool) → blocks ≡ true → pointer < length marks
-    → Added (λ p. eqb pointer p && blocks) marks (set marks pointer true)
-added_one marks pointer blocks on h =
-    record { long = length-set marks pointer true; each = λ p few. go p (eqb pointer p) refl }
-  where
-    go : (p : ℕ) (b : Bool) → eqb pointer p ≡ b → marked (set marks pointer true) p ≡ marked marks p || (b && blocks)
-    go p true e =
-        let same : pointer ≡ p = eqb-true pointer p e in
-        rw (← same, get_or-set_same marks pointer true false h, on, or-true (marked marks pointer))
-    go p false e =
-        rw (get_or-set_other marks pointer p true false (λ same. eqb-false pointer p e (sym same)), or-false (marked marks p))
-
--- None is set: there is no such mark, or the event does not block.
-pub added_far : (marks : List Bool) (pointer : ℕ) (blocks : Bool) → length marks ≡ 9 → length marks ≤ pointer
-    → Added (λ p. eqb pointer p && blocks) marks marks
-added_far marks pointer blocks long far = record { long = refl; each = λ p few. go p few }
-  where
-    go : (p : ℕ) → p ≤ 8 → marked marks p ≡ marked marks p || (eqb pointer p && blocks)
-    go p few = rw (ne_eqb pointer p (λ same. omega arith), or-false (marked marks p))
-
-pub added_none : (marks : List Bool) (pointer : ℕ) (blocks : Bool) → blocks ≡ false
-    → Added (λ p. eqb pointer p && blocks) marks marks
-added_none marks pointer blocks off = record { long = refl; each = λ p few. go (marked marks p) (eqb pointer p) }
-  where
-    go : (m b : Bool) → m ≡ m || (b && blocks)
-    go true b = refl
-    go false true = sym off
-    go false false = refl
 
 -- Whether the event blocks, in other words.
 pub added_as : (pointer : ℕ) {b blocks : Bool} {marks after : List Bool} → b ≡ blocks → Added (λ p. eqb pointer p && b) marks after

@@ -218,12 +218,7 @@ fn settle(
 }
 
 // The same when the pointer is known: the list without its entry and with the new one.
-fn store(
-    list: &mut [u8],
-    old: ContractList,
-    pointer: u32,
-    order: Order,
-) -> Result<u32, Refusal>
+fn store(list: &mut [u8], old: ContractList, pointer: u32, order: Order) -> Result<u32, Refusal>
     requires { 1 ≤ pointer }
     ensures { (file new : List ℕ) → record { answer = loaded_answer result; list = list.new; file = file_after (loaded_answer result) new file }
         ≡ stored order list.old file old new pointer }

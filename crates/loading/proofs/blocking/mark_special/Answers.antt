@@ -1,7 +1,7 @@
-use Rattle.std.proofs.Common.{◌≡◌, Err, rules, refl, ◌∙◌}
+use Rattle.std.proofs.Common.{◌≡◌, Err, rules, ◌∙◌}
 use native.Mathlib.Omega.{arith}
 use native.Mathlib.Numerals.{add-one}
-use Rattle.loading.proofs.Marks.{passed_none, passed_more, passed_refused, passed_all, added_as}
+use Rattle.loading.proofs.Marks.{passed_more, passed_refused, passed_all, added_as}
 use Rattle.loading.proofs.blocking.mark_special.Goals as goal
 
 pub returns-in_err-event : goal.returns-in_err-event
