@@ -10,14 +10,12 @@ use lib.ListN.{length, length-map, replicate}
 use borrow.Author.Tests.{eq-eqb, ne_eqb, eqb-true, eqb-false, leb-true, not-true}
 use Rattle.rows.specs.Row.{pick, among}
 use Rattle.rows.proofs.Margins.{both}
-use Rattle.records.specs.Answer.{refusal}
+use Rattle.records.specs.Answer.{refusal, Answer}
 use Rattle.records.specs.Order.{Attempt, got, stopped, next, needs}
-use Rattle.records.specs.Answer.{Answer}
-use Rattle.lists.specs.List.{got_list, list_read}
+use Rattle.lists.specs.List.{got_list, list_read, ListRead}
 use Rattle.lists.specs.Entries.{counted, listing, without, appended}
 use Rattle.lists.specs.declared.list.Entry.{Entry}
 use Rattle.lists.specs.declared.list.ContractList.{ContractList}
-use Rattle.lists.specs.List.{ListRead}
 use Rattle.lists.proofs.list.Laws.{list_fair}
 use Rattle.lists.proofs.Entries.{length_without}
 use Rattle.lists.proofs.Tallying.{among_in_use}

@@ -10,19 +10,15 @@ use lib.Dec.{eqb}
 use lib.ListN.{length, take, drop, length-drop, length-append}
 use lib.Seq.{take_at, drop_at, drop-drop}
 use borrow.Author.Tests.{eq-eqb, ne_eqb}
-use Rattle.records.specs.Answer.{refusal}
-use Rattle.records.specs.Event.{event_told, event_read}
+use Rattle.records.specs.Answer.{refusal, Answer}
+use Rattle.records.specs.Event.{event_told, event_read, EventRead}
 use Rattle.records.proofs.Telling.{event_one}
 use Rattle.records.specs.Order.{Attempt, got, stopped, next, record_from, events}
-use Rattle.records.specs.Answer.{Answer}
 use Rattle.records.specs.declared.event.Event.{Event}
-use Rattle.records.specs.Event.{EventRead}
 use Rattle.std.specs.Prelude.{Ok, Err}
-use Rattle.contract.specs.Contract.{contract_read}
+use Rattle.contract.specs.Contract.{contract_read, ContractRead}
 use Rattle.contract.specs.declared.Contract.{Contract}
-use Rattle.contract.specs.Contract.{ContractRead}
-use Rattle.lists.specs.Special.{special_read}
-use Rattle.lists.specs.Special.{SpecialRead}
+use Rattle.lists.specs.Special.{special_read, SpecialRead}
 use Rattle.loading.specs.Blocking.{some, moment, blocks, named_by_special, blocked}
 use Rattle.loading.specs.Loading.{Lent, contract_got, blocking}
 use Rattle.loading.specs.declared.Order.{Order}

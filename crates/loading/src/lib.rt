@@ -29,7 +29,7 @@ pub struct Order {
     pub day: u32,
     pub minute: u32,
     pub hours: u32,
-    // the entry; its network is zero where it has none
+    // the entry; its network is zero where it has none, and no Option: `network_fits` and `new_entry` say so of both fields
     pub key: u32,
     pub kind: u32,
     pub priority: u32,
@@ -154,8 +154,8 @@ impl Lengths {
     }
 }
 
-// Finds the place for a new contract, writes it there, and its entry to the contract list: its pointer. Refused, both are as they
-// were.
+// Finds the place for a new contract, writes it there, and its entry to the contract list; answers its pointer. Refused, both are
+// as they were.
 // The codes are 32 bytes, a bit for each event code, bit 0 for code 0: a journal event blocks only where its code's is one.
 pub fn load(
     list: &mut [u8],
@@ -230,8 +230,8 @@ fn store(list: &mut [u8], old: ContractList, pointer: u32, order: Order) -> Resu
     Ok(pointer)
 }
 
-// Writes the new contract to its pointer's place. It was read before, and is read again: its value did not wait while the list was
-// changed.
+// Writes the new contract to its pointer's place. It was read before, and is read again, which refuses nothing: its value did not
+// wait while the list was changed.
 fn put_new(file: &mut [u8], new: &[u8], kind: u32, pointer: u32)
     requires { (1 ≤ pointer) × (29 * pointer ≤ length file.old) × (length new.now ≡ 29) × ((refusal_of (contract_got (contract_read kind new.now))).number ≡ 0) }
     ensures { file.new ≡ placed pointer new.now file.old }
