@@ -10,14 +10,12 @@ use lib.ListN.{length, length-map, replicate}
 use borrow.Author.Tests.{eq-eqb, ne_eqb, eqb-true, eqb-false, leb-true, not-true}
 use Rattle.rows.specs.Row.{pick, among}
 use Rattle.rows.proofs.Margins.{both}
-use Rattle.records.specs.Answer.{refusal}
+use Rattle.records.specs.Answer.{refusal, Answer}
 use Rattle.records.specs.Order.{Attempt, got, stopped, next, needs}
-use Rattle.records.specs.Answer.{Answer}
-use Rattle.lists.specs.List.{got_list, list_read}
+use Rattle.lists.specs.List.{got_list, list_read, ListRead}
 use Rattle.lists.specs.Entries.{counted, listing, without, appended}
 use Rattle.lists.specs.declared.list.Entry.{Entry}
 use Rattle.lists.specs.declared.list.ContractList.{ContractList}
-use Rattle.lists.specs.List.{ListRead}
 use Rattle.lists.proofs.list.Laws.{list_fair}
 use Rattle.lists.proofs.Entries.{length_without}
 use Rattle.lists.proofs.Tallying.{among_in_use}
@@ -83,7 +81,6 @@ pub record Card (o : Order) (list file : List ℕ) (lent : Lent) : Type 0 where
   pub most : o.n ≤ 8
   pub counters : o.c ≤ o.n
   pub file_long : length file ≡ 29 * o.n
-  pub records_long : length lent.records ≡ 29 * o.s
   pub new_long : length lent.new ≡ 29
   pub list_long : length list ≡ 29
   pub entry_fits_law : entry_fits o ≡ true
@@ -113,7 +110,6 @@ module _ (o : Order) (list file : List ℕ) (lent : Lent) where
         most = leb-true _ _ most_ok;
         counters = leb-true _ _ counters_ok;
         file_long = eqb-true _ _ file_ok;
-        records_long = eqb-true _ _ records_ok;
         new_long = eqb-true _ _ new_ok;
         list_long = eqb-true _ _ list_ok;
         entry_fits_law = entry_ok;

@@ -14,9 +14,8 @@ use borrow.Author.Tests.{eq-eqb, ne_eqb, eqb-true, eqb-false, ltb-true, ltb-fals
 use Rattle.rows.specs.Row.{pick, among}
 use Rattle.rows.proofs.Margins.{both}
 use Rattle.rows.proofs.Refusing.{Refusing}
-use Rattle.records.specs.Answer.{Written, refusal, accepted}
+use Rattle.records.specs.Answer.{Written, refusal, accepted, Answer}
 use Rattle.records.specs.Order.{Attempt, got, stopped, next, needs, record_from}
-use Rattle.records.specs.Answer.{Answer}
 use Rattle.records.proofs.Coming.{ComesTo, fine, faulty, comes_within, stops, written_taken}
 use Rattle.lists.specs.List.{got_list, list_read, list_written}
 use Rattle.lists.specs.Entries.{counted, listing, attempted, without, list_bits, overfull}
@@ -25,14 +24,12 @@ use Rattle.lists.specs.declared.list.ContractList.{ContractList}
 use Rattle.lists.proofs.Kept.{Apart, list_kept, list_got, one_each, apart_afterwards, list_was_read}
 use Rattle.lists.proofs.Sounding.{Good, made_good, good_without, good_append, read_good, written_or_two}
 use Rattle.lists.proofs.list.Laws.{list_write_read, list_write_comes}
-use Rattle.contract.specs.Contract.{contract_read}
+use Rattle.contract.specs.Contract.{contract_read, ContractRead}
 use Rattle.contract.specs.declared.Contract.{Contract}
-use Rattle.contract.specs.Contract.{ContractRead}
 use Rattle.std.specs.Prelude.{Ok, Err}
 use Rattle.loading.specs.Place.{erasable, place, afterwards}
-use Rattle.loading.specs.Loading.{Lent, Found, found, Outcome, contract_got, lengths, lengths_of, entry_fits, limits, loaded, both_or_neither, new_entry, placed, blocking, placing, finding, settled, loading}
+use Rattle.loading.specs.Loading.{Lent, Found, found, Outcome, contract_got, lengths, lengths_of, entry_fits, limits, loaded, both_or_neither, new_entry, placed, blocking, placing, finding, settled, loading, Loaded}
 use Rattle.loading.specs.declared.Order.{Order}
-use Rattle.loading.specs.Loading.{Loaded}
 use Rattle.loading.proofs.Placing.{Named, placed_free_or_erasable}
 use Rattle.loading.proofs.Told.{apart, readings, Stops, list_stops, blocking_stops, contract_stops}
 use Rattle.loading.proofs.Ending.{Card, unread_none, free_among, room_for}

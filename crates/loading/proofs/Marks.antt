@@ -1,28 +1,24 @@
 -- One more turn of the loops that read events and mark pointers, and from their marks to those of the blocked pointers.
 use Prim.Native.Nat.{ℕ, suc, ◌+◌, ◌-◌, ◌*◌, ◌/◌, ◌≤◌, ◌<◌}
 use mathlib.Core.Path.{◌≡◌, refl, sym, ap, subst, ◌∙◌}
-use mathlib.Core.List.{List, [], ◌∷◌}
-use mathlib.Core.Bool.{Bool, true, false, ◌&&◌, ◌||◌, or-false, or-true, or_assoc}
+use mathlib.Core.List.{List, [], ◌∷◌, ◌++◌}
+use mathlib.Core.Bool.{Bool, false, ◌&&◌, ◌||◌, or-false, or_assoc}
 use native.Mathlib.Omega.{arith}
 use native.Mathlib.Numerals.{add-one}
 use native.Mathlib.Nat.{sub-zero}
 use lib.Dec.{eqb}
-use lib.ListN.{length, set, take, drop, length-set}
-use lib.Seq.{get_or-set_same, get_or-set_other}
-use borrow.Author.Tests.{eqb-true, eqb-false, eq-eqb, ne_eqb}
-use Rattle.records.specs.Answer.{refusal}
-use Rattle.records.specs.Event.{event_told, event_read}
+use lib.ListN.{length, take, drop, length-drop, length-append}
+use lib.Seq.{take_at, drop_at, drop-drop}
+use borrow.Author.Tests.{eq-eqb, ne_eqb}
+use Rattle.records.specs.Answer.{refusal, Answer}
+use Rattle.records.specs.Event.{event_told, event_read, EventRead}
 use Rattle.records.proofs.Telling.{event_one}
 use Rattle.records.specs.Order.{Attempt, got, stopped, next, record_from, events}
-use Rattle.records.specs.Answer.{Answer}
 use Rattle.records.specs.declared.event.Event.{Event}
-use Rattle.records.specs.Event.{EventRead}
 use Rattle.std.specs.Prelude.{Ok, Err}
-use Rattle.contract.specs.Contract.{contract_read}
+use Rattle.contract.specs.Contract.{contract_read, ContractRead}
 use Rattle.contract.specs.declared.Contract.{Contract}
-use Rattle.contract.specs.Contract.{ContractRead}
-use Rattle.lists.specs.Special.{special_read}
-use Rattle.lists.specs.Special.{SpecialRead}
+use Rattle.lists.specs.Special.{special_read, SpecialRead}
 use Rattle.loading.specs.Blocking.{some, moment, blocks, named_by_special, blocked}
 use Rattle.loading.specs.Loading.{Lent, contract_got, blocking}
 use Rattle.loading.specs.declared.Order.{Order}
@@ -33,36 +29,6 @@ use Rattle.loading.proofs.Told.{Stops, events_stop, blocking_stops}
 apart : {A : Type 0} {r : Answer} {a : A} → stopped r ≡ got a → ⊥
 apart e = let z : ◌≡◌ {A = ℕ} 0 1 = cc in omega arith
 
--- A mark that is set.
-pub added_one : (marks : List Bool) (pointer : ℕ) (blocks : Bool) → blocks ≡ true → pointer < length marks
-    → Added (λ p. eqb pointer p && blocks) marks (set marks pointer true)
-added_one marks pointer blocks on h =
-    record { long = length-set marks pointer true; each = λ p few. go p (eqb pointer p) refl }
-  where
-    go : (p : ℕ) (b : Bool) → eqb pointer p ≡ b → marked (set marks pointer true) p ≡ marked marks p || (b && blocks)
-    go p true e =
-        let same : pointer ≡ p = eqb-true pointer p e in
-        rw (← same, get_or-set_same marks pointer true false h, on, or-true (marked marks pointer))
-    go p false e =
-        rw (get_or-set_other marks pointer p true false (λ same. eqb-false pointer p e (sym same)), or-false (marked marks p))
-
--- None is set: there is no such mark, or the event does not block.
-pub added_far : (marks : List Bool) (pointer : ℕ) (blocks : Bool) → length marks ≡ 9 → length marks ≤ pointer
-    → Added (λ p. eqb pointer p && blocks) marks marks
-added_far marks pointer blocks long far = record { long = refl; each = λ p few. go p few }
-  where
-    go : (p : ℕ) → p ≤ 8 → marked marks p ≡ marked marks p || (eqb pointer p && blocks)
-    go p few = rw (ne_eqb pointer p (λ same. omega arith), or-false (marked marks p))
-
-pub added_none : (marks : List Bool) (pointer : ℕ) (blocks : Bool) → blocks ≡ false
-    → Added (λ p. eqb pointer p && blocks) marks marks
-added_none marks pointer blocks off = record { long = refl; each = λ p few. go (marked marks p) (eqb pointer p) }
-  where
-    go : (m b : Bool) → m ≡ m || (b && blocks)
-    go true b = refl
-    go false true = sym off
-    go false false = refl
-
 -- Whether the event blocks, in other words.
 pub added_as : (pointer : ℕ) {b blocks : Bool} {marks after : List Bool} → b ≡ blocks → Added (λ p. eqb pointer p && b) marks after
     → Added (λ p. eqb pointer p && blocks) marks after
@@ -71,16 +37,18 @@ added_as pointer {b} {blocks} {marks} {after} e added = subst (λ (t : Bool). Ad
 module _ (named : ℕ → List Event → ℕ → Bool) (names : ℕ → Event → ℕ → Bool)
     (nil : (k p : ℕ) → named k [] p ≡ false)
     (cons : (k : ℕ) (e : Event) (es : List Event) (p : ℕ) → named k (e ∷ es) p ≡ names k e p || named (suc k) es p)
-    (n : ℕ) (file : List ℕ) (start : List Bool) where
-  -- The first i of n events are read and their marks made: marking the rest is marking all.
-  pub record Passed (i : ℕ) (marks : List Bool) : Type 0 where
-    pub few : i ≤ n
+    (file : List ℕ) (start : List Bool) where
+  -- The first i events of a file are read and their marks made: marking the rest is marking all.
+  pub record Passed (i : ℕ) (rest : List ℕ) (marks : List Bool) : Type 0 where
+    pub few : i ≤ length file / 29
+    pub left : rest ≡ drop (29 * i) file
     pub long : length marks ≡ length start
-    pub all : (after : List Bool) (r : Answer) → Marking (events (n - i) file i) (named i) marks after r
-        → Marking (events n file 0) (named 0) start after r
+    pub all : (after : List Bool) (r : Answer) → Marking (events (length file / 29 - i) file i) (named i) marks after r
+        → Marking (events (length file / 29) file 0) (named 0) start after r
 
-  pub passed_none : Passed 0 start
-  passed_none = record { few = omega arith; long = refl; all = λ after r m. rw (sub-zero n) at m }
+  pub passed_none : {rest : List ℕ} → rest ≡ file → Passed 0 rest start
+  passed_none whole =
+      record { few = omega arith; left = whole; long = refl; all = λ after r m. rw (sub-zero (length file / 29)) at m }
 
   -- An event more.
   event_more : (i m : ℕ) (marks more after : List Bool) (r : Answer) (e : Event) → event_read (record_from file i) ≡ Ok e → Added (names i e) marks more
@@ -105,37 +73,56 @@ module _ (named : ℕ → List Event → ℕ → Bool) (names : ℕ → Event �
             marks = λ a same. absurd (apart same);
           }
 
-  pub passed_more : {i : ℕ} {marks : List Bool} (more : List Bool) (e : Event) → Passed i marks → i < n → event_read (record_from file i) ≡ Ok e
-      → Added (names i e) marks more → Passed (i + 1) more
-  passed_more {i} {marks} more e so h one added =
-      let on : n - i ≡ suc (n - suc i) = omega arith in
-      record {
-        few = omega arith;
-        long = added.long ∙ so.long;
-        all = λ after r m. so.all after r (rw on (event_more i (n - suc i) marks more after r e one added (rw (add-one i) at m)));
-      }
+  -- What comes off the front is the record of the event that is read next.
+  module _ {i : ℕ} {rest : List ℕ} {marks : List Bool} (piece later : List ℕ) (so : Passed i rest marks) (off : rest ≡ piece ++ later) (size : length piece ≡ 29) where
+    more_left : i < length file / 29
+    more_left =
+        let behind : length file - 29 * i ≡ 29 + length later =
+        sym (length-drop (29 * i) file) ∙ ap length (sym so.left ∙ off) ∙ length-append piece later ∙ ap (λ k. k + length later) size in
+        omega arith
 
-  -- An event that is refused.
-  pub passed_refused : {i : ℕ} {marks : List Bool} (r : Answer) → Passed i marks → i < n → event_read (record_from file i) ≡ Err r
-      → Marking (events n file 0) (named 0) start marks r
-  passed_refused {i} {marks} r so h one =
-      let on : n - i ≡ suc (n - suc i) = omega arith in
-      so.all marks r (rw (on, one) record { answer = refl; long = refl; marks = λ a same. absurd (apart same) })
+    own_record : record_from file i ≡ piece
+    own_record = ap (take 29) (sym so.left ∙ off) ∙ take_at piece later 29 size
+
+    later_left : later ≡ drop (29 * (i + 1)) file
+    later_left =
+        let place : 29 * i + 29 ≡ 29 * (i + 1) = omega arith in
+        sym (drop_at piece later 29 size) ∙ ap (drop 29) (sym off ∙ so.left) ∙ drop-drop 29 (29 * i) file ∙ ap (λ k. drop k file) place
+
+    own_read : (r : EventRead) → event_told r ≡ event_told (event_read piece) → event_read (record_from file i) ≡ r
+    own_read r e = rw own_record (sym (event_one r _ e))
+
+    pub passed_more : (more : List Bool) (e : Event) → event_told (Ok e) ≡ event_told (event_read piece) → Added (names i e) marks more
+        → Passed (i + 1) later more
+    passed_more more e told added =
+        let inside = more_left in
+        let on : length file / 29 - i ≡ suc (length file / 29 - suc i) = omega arith in
+        record {
+          few = omega arith;
+          left = later_left;
+          long = added.long ∙ so.long;
+          all = λ after r m. so.all after r (rw on (event_more i (length file / 29 - suc i) marks more after r e (own_read (Ok e) told) added (rw (add-one i) at m)));
+        }
+
+    -- An event that is refused.
+    pub passed_refused : (r : Answer) → event_told (Err r) ≡ event_told (event_read piece)
+        → Marking (events (length file / 29) file 0) (named 0) start marks r
+    passed_refused r told =
+        let inside = more_left in
+        let on : length file / 29 - i ≡ suc (length file / 29 - suc i) = omega arith in
+        so.all marks r (rw (on, own_read (Err r) told) record { answer = refl; long = refl; marks = λ a same. absurd (apart same) })
 
   -- None is left.
-  pub passed_all : {i : ℕ} {marks : List Bool} → Passed i marks → n ≤ i → Marking (events n file 0) (named 0) start marks (refusal 0 0)
-  passed_all {i} {marks} so h =
-      let none : n - i ≡ 0 = omega arith in
+  pub passed_all : {i : ℕ} {rest : List ℕ} {marks : List Bool} → Passed i rest marks → length rest < 29
+      → Marking (events (length file / 29) file 0) (named 0) start marks (refusal 0 0)
+  passed_all {i} {rest} {marks} so h =
+      let behind : length file - 29 * i ≡ length rest = sym (length-drop (29 * i) file) ∙ ap length (sym so.left) in
+      let none : length file / 29 - i ≡ 0 = omega arith in
       so.all marks (refusal 0 0) (rw none record {
         answer = refl;
         long = refl;
         marks = λ a same. let these : a ≡ [] = cc in rw these record { long = refl; each = λ p few. rw (nil i p, or-false (marked marks p)) };
       })
-
--- What was read of a part of a file is its record.
-pub part_read : (file : List ℕ) (i : ℕ) (r : EventRead) → event_told r ≡ event_told (event_read (take (29 * i + 29 - 29 * i) (drop (29 * i) file)))
-    → event_read (record_from file i) ≡ r
-part_read file i r e = let size : 29 * i + 29 - 29 * i ≡ 29 = omega arith in sym (event_one r _ (rw size at e))
 
 -- The time, in other words.
 pub at_time : (attempt : Attempt (List Event)) (codes : List ℕ) {time moment : ℕ} (hours : ℕ) {before after : List Bool} {r : Answer} → time ≡ moment

@@ -10,16 +10,14 @@ use borrow.Rule.Slice.PartMut.{put_mid}
 use lib.ListN.{length, get_or, take, drop, length-drop}
 use borrow.Author.Tests.{eq-eqb, ne_eqb, eqb-true, eqb-false}
 use Rattle.rows.specs.Row.{pick}
-use Rattle.records.specs.Answer.{Written, refusal}
+use Rattle.records.specs.Answer.{Written, refusal, Answer}
 use Rattle.records.specs.Order.{record_from}
 use Rattle.records.proofs.Coming.{written_kept}
-use Rattle.records.specs.Answer.{Answer}
-use Rattle.lists.specs.List.{list_read, list_written}
+use Rattle.lists.specs.List.{list_read, list_written, ListRead}
 use Rattle.lists.specs.Tally.{tally_of}
 use Rattle.lists.specs.Entries.{counted, without_pointer, appended}
 use Rattle.lists.specs.declared.list.Entry.{Entry}
 use Rattle.lists.specs.declared.list.ContractList.{ContractList}
-use Rattle.lists.specs.List.{ListRead}
 use Rattle.lists.proofs.list.Laws.{list_fair, list_write_comes}
 use Rattle.lists.proofs.Kept.{list_got}
 use Rattle.contract.specs.Contract.{contract_read, contract_written}
@@ -27,10 +25,9 @@ use Rattle.contract.specs.declared.Contract.{Contract}
 use Rattle.std.specs.Prelude.{Ok}
 use Rattle.contract.proofs.Laws.{contract_read_write}
 use Rattle.loading.specs.Place.{place}
-use Rattle.loading.specs.Loading.{Outcome, loaded, new_entry, placed}
+use Rattle.loading.specs.Loading.{Outcome, loaded, new_entry, placed, Loaded}
 use Rattle.loading.specs.Inner.Store.{renewed, file_after, stored, ended}
 use Rattle.loading.specs.declared.Order.{Order}
-use Rattle.loading.specs.Loading.{Loaded}
 
 -- An answer, the list, and the contract file after it.
 abbrev after : Loaded → List ℕ → List ℕ → List ℕ → Outcome

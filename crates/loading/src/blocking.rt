@@ -41,11 +41,9 @@ fn mark_journal(
     requires { length marks.old ≡ 9 }
     ensures { Marking (events (length journal.now / 29) journal.now 0) (λ es p. some (blocks codes.now time hours p) es) marks.old marks.new (answer_of result) }
 {
-    let n = journal.len() / BYTES;
-    for i in 0..n {
-        let event = event::read(&journal[BYTES * i..BYTES * i + BYTES])?;
-        let blocks = journey(event, codes) & recent(event, time, hours);
-        mark(event.pointer, blocks, marks);
+    for record in journal.chunks_exact(BYTES) {
+        let event = event::read(record)?;
+        mark(event.pointer, is_blocking(event, codes, time, hours), marks);
     }
     Ok(())
 }
@@ -55,9 +53,8 @@ fn mark_special(records: &[u8], list: SpecialList, marks: &mut [bool]) -> Result
     requires { length marks.old ≡ 9 }
     ensures { Marking (events (length records.now / 29) records.now 0) (λ es p. named_by_special (take list.count list.entries) p 1 es) marks.old marks.new (answer_of result) }
 {
-    let n = records.len() / BYTES;
-    for i in 0..n {
-        let event = event::read(&records[BYTES * i..BYTES * i + BYTES])?;
+    for (i, record) in records.chunks_exact(BYTES).enumerate() {
+        let event = event::read(record)?;
         mark(event.pointer, listed(list, i + 1), marks);
     }
     Ok(())
@@ -69,17 +66,22 @@ fn mark(pointer: u32, blocks: bool, marks: &mut [bool])
     ensures { Added (λ p. eqb pointer p && blocks) marks.old marks.new }
 {
     let p = pointer as usize;
-    if blocks {
-        if p < marks.len() {
-            marks[p] = true;
-        }
+    if blocks && p < marks.len() {
+        marks[p] = true;
     }
 }
 
 fn moment(day: u32, minute: u32) -> u64
     ensures { result ≡ moment day minute }
 {
-    day as u64 * 1440 + minute as u64
+    u64::from(day) * 1440 + u64::from(minute)
+}
+
+// Whether a journal event blocks the pointer that it names.
+fn is_blocking(event: Event, codes: &[u8], time: u64, hours: u32) -> bool
+    ensures { result ≡ journey codes.now event && recent time hours event }
+{
+    journey(event, codes) && recent(event, time, hours)
 }
 
 // Whether the event has a code, element [2], that is marked: an inspection, or one without a code, blocks nothing.
@@ -87,7 +89,7 @@ fn journey(event: Event, codes: &[u8]) -> bool
     ensures { result ≡ journey codes.now event }
 {
     let coded = (event.bitmap >> 2) % 2 == 1;
-    coded & bits::is_one(codes, event.code)
+    coded && bits::is_one(codes, event.code)
 }
 
 // Later than the time now, or less than so many hours old. A clock set back frees nothing.
@@ -95,10 +97,7 @@ fn recent(event: Event, time: u64, hours: u32) -> bool
     ensures { result ≡ recent time hours event }
 {
     let then = moment(event.date, event.minute);
-    if time < then {
-        return true;
-    }
-    time - then < 60 * hours as u64
+    time < then || time - then < 60 * u64::from(hours)
 }
 
 // Whether a special event record is listed.

@@ -29,7 +29,7 @@ pub struct Order {
     pub day: u32,
     pub minute: u32,
     pub hours: u32,
-    // the entry; its network is zero where it has none
+    // the entry; its network is zero where it has none, and no Option: `network_fits` and `new_entry` say so of both fields
     pub key: u32,
     pub kind: u32,
     pub priority: u32,
@@ -74,38 +74,38 @@ impl Order {
     fn agrees(self, lent: Lengths) -> bool
         ensures { result ≡ lengths self lent }
     {
-        (lent.list == BYTES)
-            & (lent.file == BYTES * self.n as usize)
-            & (lent.special == BYTES)
-            & (lent.journal % BYTES == 0)
-            & (lent.records == BYTES * self.s as usize)
-            & (lent.new == BYTES)
-            & (lent.codes == Order::CODE_BYTES)
+        lent.list == BYTES
+            && lent.file == BYTES * self.n as usize
+            && lent.special == BYTES
+            && lent.journal % BYTES == 0
+            && lent.records == BYTES * self.s as usize
+            && lent.new == BYTES
+            && lent.codes == Order::CODE_BYTES
     }
 
     fn in_limits(self, journal: usize) -> bool
         ensures { result ≡ limits self journal }
     {
-        (1 <= self.n)
-            & (self.n <= ContractList::MOST)
-            & (self.c <= ContractList::MOST_COUNTERS)
-            & (self.c <= self.n)
-            & (self.s <= SpecialList::MOST)
-            & (journal <= MOST_RECORDS)
-            & (self.day <= LAST_DAY)
-            & (self.minute <= LAST_MINUTE)
-            & (self.hours <= Order::MOST_HOURS)
-            & self.entry_in_limits()
+        1 <= self.n
+            && self.n <= ContractList::MOST
+            && self.c <= ContractList::MOST_COUNTERS
+            && self.c <= self.n
+            && self.s <= SpecialList::MOST
+            && journal <= MOST_RECORDS
+            && self.day <= LAST_DAY
+            && self.minute <= LAST_MINUTE
+            && self.hours <= Order::MOST_HOURS
+            && self.entry_in_limits()
     }
 
     fn entry_in_limits(self) -> bool
         ensures { result ≡ entry_fits self }
     {
-        (self.key <= Entry::LAST_KEY)
-            & (self.kind <= Entry::LAST_KIND)
-            & (self.priority <= Entry::LAST_PRIORITY)
-            & (self.priority != Entry::UNDEFINED)
-            & self.network_in_limits()
+        self.key <= Entry::LAST_KEY
+            && self.kind <= Entry::LAST_KIND
+            && self.priority <= Entry::LAST_PRIORITY
+            && self.priority != Entry::UNDEFINED
+            && self.network_in_limits()
     }
 
     // One that is absent is zero.
@@ -113,9 +113,10 @@ impl Order {
         ensures { result ≡ network_fits self }
     {
         if self.has_network {
-            return self.network < Entry::NETWORKS;
+            self.network < Entry::NETWORKS
+        } else {
+            self.network == 0
         }
-        self.network == 0
     }
 
     // The new entry.
@@ -153,8 +154,8 @@ impl Lengths {
     }
 }
 
-// Finds the place for a new contract, writes it there, and its entry to the contract list: its pointer. Refused, both are as they
-// were.
+// Finds the place for a new contract, writes it there, and its entry to the contract list; answers its pointer. Refused, both are
+// as they were.
 // The codes are 32 bytes, a bit for each event code, bit 0 for code 0: a journal event blocks only where its code's is one.
 pub fn load(
     list: &mut [u8],
@@ -229,8 +230,8 @@ fn store(list: &mut [u8], old: ContractList, pointer: u32, order: Order) -> Resu
     Ok(pointer)
 }
 
-// Writes the new contract to its pointer's place. It was read before, and is read again: its value did not wait while the list was
-// changed.
+// Writes the new contract to its pointer's place. It was read before, and is read again, which refuses nothing: its value did not
+// wait while the list was changed.
 fn put_new(file: &mut [u8], new: &[u8], kind: u32, pointer: u32)
     requires { (1 ≤ pointer) × (29 * pointer ≤ length file.old) × (length new.now ≡ 29) × ((refusal_of (contract_got (contract_read kind new.now))).number ≡ 0) }
     ensures { file.new ≡ placed pointer new.now file.old }

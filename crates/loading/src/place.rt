@@ -82,8 +82,8 @@ fn erasable(entry: Entry, marks: &[bool], first: u32, last: u32) -> bool
     requires { (length marks.now ≡ 9) × (last ≤ 8) }
     ensures { result ≡ within first last entry.pointer && erasable (marked marks.now) entry }
 {
-    if (first <= entry.pointer) & (entry.pointer <= last) {
-        return (entry.priority == Entry::ERASABLE) & !marks[entry.pointer as usize];
-    }
-    false
+    first <= entry.pointer
+        && entry.pointer <= last
+        && entry.priority == Entry::ERASABLE
+        && !marks[entry.pointer as usize]
 }

@@ -28,16 +28,6 @@ returns-in_err-refused_unread c =
     let is : c.from_residual.result ≡ Err c.in_err-refused_unread.field-0.0 = search rules in
     rw is (refused_unread _ _ _ _ _ (asked c.args.order _ _ _ _ _ c.of-lent.ensures c.in_err-refused_unread.ensures) (numbered _))
 
-pub read_rest-rest-requires : goal.read_rest-rest-requires
-read_rest-rest-requires c =
-    let card = card_of c.args.order _ _ _ _ _ c.of-lent.ensures c.in_ok-refused_unread.ensures refl in
-    (refl, card.records_long)
-
-pub settle-requires : goal.settle-requires
-settle-requires c =
-    let card = card_of c.args.order _ _ _ _ _ c.of-lent.ensures c.in_ok-refused_unread.ensures refl in
-    (c.read_rest-rest.ensures.long, card.most, card.counters)
-
 -- Refused, the file is as it was.
 pub returns-in_err-pointer : goal.returns-in_err-pointer
 returns-in_err-pointer c =

@@ -1,8 +1,7 @@
 -- Marks of pointers, one for each pointer that a contract can have, and for 0: what the events that were read add to them.
 use Rattle.std.specs.Prelude.{ℕ, ◌≤◌, ◌≡◌, Bool, false, ◌||◌, List, length, get_or}
-use Rattle.records.specs.Answer.{refusal}
+use Rattle.records.specs.Answer.{refusal, Answer}
 use Rattle.records.specs.Order.{Attempt, got, stopped}
-use Rattle.records.specs.Answer.{Answer}
 
 abbrev pub marked : List Bool → ℕ → Bool
 marked marks pointer = get_or marks pointer false

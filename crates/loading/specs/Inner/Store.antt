@@ -1,18 +1,15 @@
 -- What loading's code does, in terms of the values that it read.
 use Rattle.std.specs.Prelude.{ℕ, Bool, List, eqb}
 use Rattle.rows.specs.Row.{pick}
-use Rattle.records.specs.Answer.{refusal}
+use Rattle.records.specs.Answer.{refusal, Answer}
 use Rattle.records.specs.Order.{Attempt, got, next}
-use Rattle.records.specs.Answer.{Answer}
-use Rattle.lists.specs.List.{list_written}
+use Rattle.lists.specs.List.{list_written, ListRead}
 use Rattle.lists.specs.Entries.{counted, without_pointer, appended}
 use Rattle.lists.specs.declared.list.ContractList.{ContractList}
-use Rattle.lists.specs.List.{ListRead}
 use Rattle.contract.specs.Contract.{contract_read}
 use Rattle.loading.specs.Place.{place}
-use Rattle.loading.specs.Loading.{Lent, Outcome, contract_got, blocking, loaded, both_or_neither, new_entry, placed}
+use Rattle.loading.specs.Loading.{Lent, Outcome, contract_got, blocking, loaded, both_or_neither, new_entry, placed, Loaded}
 use Rattle.loading.specs.declared.Order.{Order}
-use Rattle.loading.specs.Loading.{Loaded}
 
 -- The old list without the pointer's entry, and with the new one.
 abbrev pub renewed : Order → ContractList → ℕ → ContractList

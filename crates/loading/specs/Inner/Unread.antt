@@ -1,8 +1,7 @@
 -- The refusals that need no reading.
 use Rattle.std.specs.Prelude.{◌/◌}
 use Rattle.rows.specs.Row.{pick}
-use Rattle.records.specs.Answer.{refusal}
-use Rattle.records.specs.Answer.{Answer}
+use Rattle.records.specs.Answer.{refusal, Answer}
 use Rattle.loading.specs.Loading.{lengths, limits}
 use Rattle.loading.specs.declared.Order.{Order}
 use Rattle.loading.specs.declared.Lengths.{Lengths}
