@@ -6,6 +6,7 @@ use lists::tally::Tally;
 use records::Refusal;
 use rows::margin::Margin;
 
+// A line a field, here and below, and no fold over a value's `numbers`: what they take would be measured with the reading.
 fn with(d: u64, v: u32) -> u64 {
     with_word(d, v as u64)
 }

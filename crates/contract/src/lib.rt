@@ -105,7 +105,7 @@ impl Contract {
 
     const COUNT_AT_DATA: u32 = Contract::DATA_FIELD + 1;
 
-    // The numbers of its head, in card order.
+    // The numbers of its head, in card order. No From, here and below: docs/CONTRACTS.md promises the names.
     pub fn head_numbers(self) -> [u32; 9]
         ensures { result ≡ head_numbers self }
     {
@@ -177,7 +177,7 @@ fn part<const N: usize>(numbers: &[u32; 45], i: usize) -> [u32; N]
 }
 
 impl Data42 {
-    // Their numbers in card order.
+    // Their numbers in card order. No From, here and below: docs/CONTRACTS.md promises the names.
     pub fn numbers(self) -> [u32; 9]
         ensures { result ≡ numbers42 self }
     {
@@ -212,7 +212,7 @@ impl Data42 {
 }
 
 impl Data50 {
-    // Their numbers in card order.
+    // Their numbers in card order. No From, here and below: docs/CONTRACTS.md promises the names.
     pub fn numbers(self) -> [u32; 36]
         ensures { result ≡ numbers50 self }
     {

@@ -110,7 +110,7 @@ impl Holder {
         margin: [0; 15],
     };
 
-    // Its numbers in card order.
+    // Its numbers in card order. No From, here and below: docs/CONTRACTS.md promises the names.
     pub fn numbers(self) -> [u32; 111]
         ensures { result ≡ numbers_of self }
     {

@@ -30,7 +30,8 @@ pub struct Entry {
     pub pointer: u32,
 }
 
-// The tally is that of the counted entries; a value made by reading and by the methods has it right.
+// The tally is that of the counted entries; a value made by reading and by the methods has it right. A count stands beside eight
+// entries, and no Vec: the library has no heap.
 #[derive(Clone, Copy, Debug, PartialEq, Eq)]
 pub struct ContractList {
     pub count: u32,
@@ -164,7 +165,7 @@ impl ContractList {
         tally: Tally::NONE,
     };
 
-    // Its numbers in card order.
+    // Its numbers in card order. No From, here and below: docs/CONTRACTS.md promises the names.
     pub fn numbers(self) -> [u32; 49]
         ensures { result ≡ numbers_of self }
     {
@@ -334,7 +335,8 @@ struct Rest {
     pointer: u32,
 }
 
-// Whether n is no number of contract records that a card may have, or c none of counter positions among them.
+// Whether n is no number of contract records that a card may have, or c none of counter positions among them. They stay two
+// parameters, here and in every operation, as document 01 hands them over: a struct of both would be made anew for each call.
 pub fn outside(n: u32, c: u32) -> bool
     ensures { result ≡ outside n c }
 {

@@ -26,6 +26,7 @@ pub struct SpecialEntry {
     pub pointer: u32,
 }
 
+// A count beside four entries, and no Vec: the library has no heap.
 #[derive(Clone, Copy, Debug, PartialEq, Eq)]
 pub struct SpecialList {
     pub count: u32,
@@ -80,7 +81,7 @@ impl SpecialList {
         entries: [SpecialEntry::NONE; 4],
     };
 
-    // Its numbers in card order.
+    // Its numbers in card order. No From, here and below: docs/CONTRACTS.md promises the names.
     pub fn numbers(self) -> [u32; 21]
         ensures { result ≡ numbers_of self }
     {

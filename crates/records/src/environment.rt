@@ -28,7 +28,7 @@ pub struct Environment {
 }
 
 impl Environment {
-    // Its numbers in card order.
+    // Its numbers in card order. No From, here and below: docs/CONTRACTS.md promises the names.
     pub fn numbers(self) -> [u32; 10]
         ensures { result ≡ numbers_of self }
     {

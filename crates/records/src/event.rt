@@ -98,7 +98,7 @@ impl Event {
         margin: Margin::NONE,
     };
 
-    // Its numbers in card order; element [17] is 0.
+    // Its numbers in card order; element [17] is 0. No From, here and below: docs/CONTRACTS.md promises the names.
     pub fn numbers(self) -> [u32; 36]
         ensures { result ≡ numbers_of self }
     {

@@ -25,7 +25,7 @@ impl Margin {
         at192: 0,
     };
 
-    // Its words, in the order of their bits.
+    // Its words, in the order of their bits. No From, here and below: docs/CONTRACTS.md promises the names.
     pub fn words(self) -> [u64; 4]
         ensures { result ≡ words_of self }
     {

@@ -1,3 +1,4 @@
+use lib.Dec.{lit≤}
 use Rattle.rows.specs.Table.Event.{event}
 use Rattle.rows.proofs.Putting.{all_put, ◌◃◌, puts_from}
 use Rattle.rows.proofs.Running.{puts_long}

@@ -1,3 +1,4 @@
+use lib.Dec.{lit≤}
 use Rattle.rows.specs.Inner.Line.{taken, ◌▸◌}
 use Rattle.rows.specs.Table.Event.{event}
 use Rattle.records.proofs.event.take_journey.Goals as goal
