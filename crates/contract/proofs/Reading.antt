@@ -149,3 +149,8 @@ module _ {kind : ℕ} (bytes : List ℕ) {words : List ℕ} {h : Contract} {d : 
       ap (λ (ws : List ℕ). with_rest h d (margin_of ws)) left ∙ sym (taken.made margin) in
       rw (eq-eqb _ _ whole, there)
       (ap contract_told (ap Ok same ∙ record_read (λ vals margin. Ok (contract_of kind vals margin)) Err _ bytes words _ _ (few_rows kind) whole cuts taken.taken (taken.clear ok) refl))
+
+  -- The same of a contract that has its margin already.
+  pub told_whole : {c : Contract} → c ≡ with_rest h d c.margin → words_of c.margin ≡ cut 64 64 4 (cleared last.at (spread 8 bytes)) → last.why ≡ 0
+      → contract_told (Ok c) ≡ contract_told (contract_read kind bytes)
+  told_whole {c} own left ok = ap (λ (x : Contract). contract_told (Ok x)) own ∙ told_read c.margin left ok

@@ -7,9 +7,10 @@ ghost use Rattle.rows.specs.Inner.Standing.{stand};
 ghost use Rattle.rows.specs.Inner.Line.{start, Taken, Given};
 ghost use Rattle.rows.specs.Table.Contract.{head, data42, data50};
 ghost use Rattle.contract.specs.Contract.{behind, head_numbers, numbers42, numbers50, data42_of, data50_of, head_of, data_of, contract_of, follow, known, with_rest, agrees, carnet, urban, contract_told, contract_read, contract_written};
+ghost use Rattle.bits.specs.Bits.{cut, cleared};
 ghost use Rattle.rows.specs.Margin.{words_of};
 ghost use Rattle.records.specs.Answer.{answer_of, heard, from};
-ghost use Rattle.contract.specs.Inner.Steps.{disagreed, TakeOf, PutOf};
+ghost use Rattle.contract.specs.Inner.Steps.{disagreed, PutOf};
 
 use records::{BITS, BYTES, LAST_MINUTE, Refusal, Why};
 use rows::margin::Margin;
@@ -320,14 +321,35 @@ pub fn read(bytes: &[u8], kind: u32) -> Result<Contract, Refusal>
     let mut words = [0u64; 8];
     bits::words(&bytes[..], &mut words);
     let front = take_head(&words);
-    let rest = take_data(&words, kind, &front);
-    let last = rest.last;
+    let head = front.value;
+    let last = front.last;
+    if !follow(head.bitmap) {
+        Refusal::met(last)?;
+        return Ok(whole(head, Data::Nothing, &words, last.at));
+    }
+    if kind == Contract::CARNET {
+        let carnet = take_carnet(&words, last, head.bitmap);
+        let last = carnet.last;
+        Refusal::met(last)?;
+        return Ok(whole(head, Data::Carnet(carnet.value), &words, last.at));
+    }
+    let urban = take_urban(&words, last, head.bitmap);
+    let last = urban.last;
     Refusal::met(last)?;
-    Ok(Contract {
-        data: rest.value,
-        margin: margin::take(&words, last.at),
-        ..front.value
-    })
+    Ok(whole(head, Data::Urban(urban.value), &words, last.at))
+}
+
+// The contract of a head and data, with what stands from bit at on as its margin.
+fn whole(head: Contract, data: Data, words: &[u64], at: u32) -> Contract
+    requires { length words.now ≡ 8 }
+    ensures own { result ≡ with_rest head «data» result.margin }
+    ensures margin { (bs : List Bool) → words.now ≡ cut 32 64 8 bs → words_of result.margin ≡ cut 64 64 4 (cleared at bs) }
+{
+    Contract {
+        data,
+        margin: margin::take(words, at),
+        ..head
+    }
 }
 
 // Whether the data follow the head: bit [6] of its bitmap.
@@ -365,34 +387,6 @@ fn take_head(words: &[u64]) -> Part<Contract>
             margin: Margin::NONE,
         },
         last: status,
-    }
-}
-
-// The data of a type behind a head: none where they do not follow.
-#[tactic(auto, using(crate::proofs::Reading::rest_none, crate::proofs::Reading::rest42, crate::proofs::Reading::rest50))]
-fn take_data(words: &[u64], kind: u32, front: &Part<Contract>) -> Part<Data>
-    requires { Taken words.now 232 head [] start (head_numbers front.now.value) (stand front.now.last) }
-    ensures { TakeOf words.now kind front.now.value result.value (stand result.last) }
-{
-    let bitmap = front.value.bitmap;
-    let last = front.last;
-    if !follow(bitmap) {
-        return Part {
-            value: Data::Nothing,
-            last,
-        };
-    }
-    if kind == Contract::CARNET {
-        let carnet = take_carnet(words, last, bitmap);
-        return Part {
-            value: Data::Carnet(carnet.value),
-            last: carnet.last,
-        };
-    }
-    let urban = take_urban(words, last, bitmap);
-    Part {
-        value: Data::Urban(urban.value),
-        last: urban.last,
     }
 }
 
