@@ -6,7 +6,7 @@ ghost use Rattle.loading.specs.Blocking.{some, moment, journey, recent, blocks, 
 ghost use Rattle.loading.specs.Loading.{blocking};
 ghost use Rattle.loading.specs.Inner.Marks.{Added, Marking};
 
-use crate::Order;
+use crate::{Lent, Order};
 use lists::special;
 use lists::special::SpecialList;
 use records::event::Event;
@@ -14,21 +14,14 @@ use records::{BYTES, Refusal, event};
 
 // Reads the special event list, the journal and all special event records, and marks the pointers that they block. There is a
 // mark for each pointer that a contract can have, and for 0.
-pub fn mark_all(
-    special: &[u8],
-    journal: &[u8],
-    records: &[u8],
-    codes: &[u8],
-    order: Order,
-    marks: &mut [bool],
-) -> Result<(), Refusal>
-    requires { (length marks.old ≡ 9) × (length records.now ≡ 29 * order.s) }
-    ensures { Marking (blocking order special.now journal.now records.now codes.now) (λ blocked. blocked) marks.old marks.new (answer_of result) }
+pub fn mark_all(lent: Lent<'_>, order: Order, marks: &mut [bool]) -> Result<(), Refusal>
+    requires { (length marks.old ≡ 9) × (length lent.records.now ≡ 29 * order.s) }
+    ensures { Marking (blocking order lent.entry.special.now lent.entry.journal.now lent.entry.records.now lent.entry.codes.now) (λ blocked. blocked) marks.old marks.new (answer_of result) }
 {
-    let list = special::read(special, order.s)?;
+    let list = special::read(lent.special, order.s)?;
     let time = moment(order.day, order.minute);
-    mark_journal(journal, codes, time, order.hours, marks)?;
-    mark_special(records, list, marks)
+    mark_journal(lent.journal, lent.codes, time, order.hours, marks)?;
+    mark_special(lent.records, list, marks)
 }
 
 fn mark_journal(

@@ -8,6 +8,7 @@ ghost use Rattle.std.specs.Prelude.{◌≡◌, List, ℕ, ◌*◌, ◌≤◌, le
 ghost use Rattle.lists.specs.List.{list_read};
 ghost use Rattle.contract.specs.Contract.{contract_read};
 ghost use Rattle.records.specs.Answer.{answer_of};
+ghost use Rattle.loading.specs.Inner.Lent.{bytes_of};
 ghost use Rattle.loading.specs.Inner.Marks.{marked, refusal_of, Marking};
 ghost use Rattle.loading.specs.Inner.Store.{rest_read, file_after, stored, ended};
 ghost use Rattle.loading.specs.Loading.{Lent, Outcome, lengths, lengths_of, network_fits, entry_fits, limits, contract_got, new_entry, placed, loaded_answer, loading};
@@ -39,6 +40,16 @@ pub struct Order {
     pub counter: bool,
 }
 
+// What is lent and only read: special event list, journal, special event records, new contract record, a bit for each event code.
+#[derive(Clone, Copy)]
+struct Lent<'a> {
+    special: &'a [u8],
+    journal: &'a [u8],
+    records: &'a [u8],
+    new: &'a [u8],
+    codes: &'a [u8],
+}
+
 // The lengths of all that is lent.
 #[derive(Clone, Copy, PartialEq, Eq, Debug)]
 struct Lengths {
@@ -59,28 +70,28 @@ impl Order {
     pub const CODE_BYTES: usize = 32;
 
     // The refusal that needs no reading: 1, 11, or none.
-    fn refused_unread(self, lent: Lengths) -> Result<(), Refusal>
-        ensures { answer_of result ≡ unread self lent }
+    fn refused_unread(self, sizes: Lengths) -> Result<(), Refusal>
+        ensures { answer_of result ≡ unread self sizes }
     {
-        if !self.agrees(lent) {
+        if !self.agrees(sizes) {
             return Err(Refusal::WRONG_LENGTH);
         }
-        if !self.in_limits(lent.journal / BYTES) {
+        if !self.in_limits(sizes.journal / BYTES) {
             return Err(Refusal::OUTSIDE_LIMITS);
         }
         Ok(())
     }
 
-    fn agrees(self, lent: Lengths) -> bool
-        ensures { result ≡ lengths self lent }
+    fn agrees(self, sizes: Lengths) -> bool
+        ensures { result ≡ lengths self sizes }
     {
-        lent.list == BYTES
-            && lent.file == BYTES * self.n as usize
-            && lent.special == BYTES
-            && lent.journal % BYTES == 0
-            && lent.records == BYTES * self.s as usize
-            && lent.new == BYTES
-            && lent.codes == Order::CODE_BYTES
+        sizes.list == BYTES
+            && sizes.file == BYTES * self.n as usize
+            && sizes.special == BYTES
+            && sizes.journal % BYTES == 0
+            && sizes.records == BYTES * self.s as usize
+            && sizes.new == BYTES
+            && sizes.codes == Order::CODE_BYTES
     }
 
     fn in_limits(self, journal: usize) -> bool
@@ -130,26 +141,18 @@ impl Order {
     }
 }
 
-impl Lengths {
-    fn of(
-        list: &[u8],
-        file: &[u8],
-        special: &[u8],
-        journal: &[u8],
-        records: &[u8],
-        new: &[u8],
-        codes: &[u8],
-    ) -> Lengths
-        ensures { result ≡ lengths_of list.now file.now (record { special = special.entry.now; journal = journal.now; records = records.now; new = new.now; codes = codes.now }) }
+impl Lent<'_> {
+    fn lengths(self, list: &[u8], file: &[u8]) -> Lengths
+        ensures { result ≡ lengths_of list.now file.now (bytes_of self.entry) }
     {
         Lengths {
             list: list.len(),
             file: file.len(),
-            special: special.len(),
-            journal: journal.len(),
-            records: records.len(),
-            new: new.len(),
-            codes: codes.len(),
+            special: self.special.len(),
+            journal: self.journal.len(),
+            records: self.records.len(),
+            new: self.new.len(),
+            codes: self.codes.len(),
         }
     }
 }
@@ -170,30 +173,28 @@ pub fn load(
     ensures { record { answer = loaded_answer result; list = list.new; file = file.new }
         ≡ loading order list.old file.old (record { special = special.entry.now; journal = journal.now; records = records.now; new = new.now; codes = codes.now }) }
 {
-    let lent = Lengths::of(list, file, special, journal, records, new, codes);
-    order.refused_unread(lent)?;
+    let lent = Lent {
+        special,
+        journal,
+        records,
+        new,
+        codes,
+    };
+    order.refused_unread(lent.lengths(list, file))?;
     let mut marks = [false; 9];
-    let rest = read_rest(special, journal, records, new, codes, order, &mut marks);
+    let rest = read_rest(lent, order, &mut marks);
     let pointer = settle(list, rest, &marks, order)?;
     put_new(file, new, order.kind, pointer);
     Ok(pointer)
 }
 
 // Reads all but the contract list, in order: the events, marking the pointers that they block, and the new contract.
-fn read_rest(
-    special: &[u8],
-    journal: &[u8],
-    records: &[u8],
-    new: &[u8],
-    codes: &[u8],
-    order: Order,
-    marks: &mut [bool],
-) -> Result<(), Refusal>
-    requires { (length marks.old ≡ 9) × (length records.now ≡ 29 * order.s) }
-    ensures { Marking (rest_read order (record { special = special.entry.now; journal = journal.now; records = records.now; new = new.now; codes = codes.now })) (λ blocked. blocked) marks.old marks.new (answer_of result) }
+fn read_rest(lent: Lent<'_>, order: Order, marks: &mut [bool]) -> Result<(), Refusal>
+    requires { (length marks.old ≡ 9) × (length lent.records.now ≡ 29 * order.s) }
+    ensures { Marking (rest_read order (bytes_of lent.entry)) (λ blocked. blocked) marks.old marks.new (answer_of result) }
 {
-    blocking::mark_all(special, journal, records, codes, order, marks)?;
-    contract::read(new, order.kind)?;
+    blocking::mark_all(lent, order, marks)?;
+    contract::read(lent.new, order.kind)?;
     Ok(())
 }
 

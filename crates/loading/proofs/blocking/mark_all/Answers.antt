@@ -13,9 +13,9 @@ pub returns-in_err-mark_journal : goal.returns-in_err-mark_journal
 returns-in_err-mark_journal c =
     let a = c.args in
     let is : c.from_residual-in_err-mark_journal.result ≡ Err c.in_err-mark_journal.field-0.0 = search rules in
-    rw is (blocking_unread a.order _ _ _ _ c.in_ok-list.ensures refl (at_time _ a.codes.now a.order.hours c.moment-time.ensures c.in_err-mark_journal.ensures) (numbered _))
+    rw is (blocking_unread a.order _ _ _ _ c.in_ok-list.ensures refl (at_time _ a.lent.codes.now a.order.hours c.moment-time.ensures c.in_err-mark_journal.ensures) (numbered _))
 
 pub returns : goal.returns
 returns c =
     let a = c.args in
-    blocking_read a.order _ _ _ _ c.in_ok-list.ensures refl (at_time _ a.codes.now a.order.hours c.moment-time.ensures c.in_ok-mark_journal.ensures) refl c.requires.1 c.mark_special.ensures
+    blocking_read a.order _ _ _ _ c.in_ok-list.ensures refl (at_time _ a.lent.codes.now a.order.hours c.moment-time.ensures c.in_ok-mark_journal.ensures) refl c.requires.1 c.mark_special.ensures
