@@ -1,8 +1,8 @@
 -- From a run of the second reader to the answer about a record, an area or a list.
-use Rattle.std.proofs.Common.{Option, None, Some, is_some, Result, Ok, Err, ◌≡◌, ◌≢◌, ℕ, zero, suc, ◌+◌, ◌-◌, ◌*◌, ◌^◌, ◌<◌, ◌≤◌, Bool, true, false, List, [], length, take, drop, sym, refl, ap, ◌∙◌, arith, length-drop, length-take-le, drop-cons, take-take, eq-eqb, ne_eqb}
+use Rattle.std.proofs.Common.{Option, None, Some, is_some, Result, Ok, Err, ◌≡◌, ◌≢◌, ℕ, zero, suc, ◌+◌, ◌-◌, ◌*◌, ◌^◌, ◌<◌, ◌≤◌, Bool, true, false, List, [], length, take, drop, refl, ap, ◌∙◌, arith, length-drop, length-take-le, drop-cons, take-take, eq-eqb, ne_eqb, eqb}
 use Rattle.bits.specs.Bits.{spread, cut, cleared, leading}
-use Rattle.bits.proofs.Cutting.{length_cut, length-spread}
-use Rattle.rows.specs.Row.{Row}
+use Rattle.bits.proofs.Cutting.{length-spread}
+use Rattle.rows.specs.Row.{Row, pick}
 use Rattle.rows.specs.Walk.{Outcome, done, refused, and_then, walk, boxes_at, holding, blank, read, read_bare, slots}
 use Rattle.rows.proofs.Naming.{read_names}
 use Rattle.rows.specs.Inner.Standing.{why_of}
@@ -127,10 +127,13 @@ module _ (rows : List Row) (most : ℕ) (bytes : List ℕ) (n : ℕ) (s : Reader
     unfolding read_bare blank
     bare_all all exact same = rw (tells_read (met_none s none), eq-eqb _ _ all, same, exact)
 
--- An answer made of what a reading said.
+-- An answer made of what a reading said, and a value made of numbers and a margin.
 abbrev pub made : {V A : Type 0} → (V → A) → (Answer → A) → Result V Answer → A
 made good bad (Ok v) = good v
 made good bad (Err r) = bad r
+
+abbrev pub paired : {A : Type 0} → (List ℕ → List ℕ → A) → List ℕ × List ℕ → A
+paired good got = good got.0 got.1
 
 made_answered : {V W A : Type 0} (f : V → W) (good : W → A) (bad : Answer → A) (o : Outcome V)
     → made good bad (answered (λ v. Ok (f v)) Err o) ≡ answered (λ v. good (f v)) bad o
@@ -141,20 +144,20 @@ made_answered f good bad (refused n at i) = refl
 module _ {A : Type 0} {rows laid : List Row} (bytes : List ℕ) (n : ℕ) (table : laid ≡ rows) (count : slots rows ≡ n)
     (good : List ℕ → List ℕ → A) (bad : Answer → A) (got : Result (List ℕ × List ℕ) Refusal) where
   answers : (words : ℕ) → said (slots laid) got ≡ read_with words laid bytes
-      → made (λ (g : List ℕ × List ℕ). good g.0 g.1) bad (said n got) ≡ answered (valued words good) bad (read rows (spread 8 bytes))
+      → made (paired good) bad (said n got) ≡ answered (valued words good) bad (read rows (spread 8 bytes))
   answers words says =
-      ap (made (λ (g : List ℕ × List ℕ). good g.0 g.1) bad) (rw (table, count) at says)
-      ∙ made_answered (valued words (λ vals margin. (vals, margin))) (λ (g : List ℕ × List ℕ). good g.0 g.1) bad (read rows (spread 8 bytes))
+      ap (made (paired good) bad) (rw (table, count) at says)
+      ∙ made_answered (valued words (λ vals margin. (vals, margin))) (paired good) bad (read rows (spread 8 bytes))
 
   -- Of a record,
   pub record_answers : length bytes ≡ 29 → said (slots laid) got ≡ read_with 4 laid bytes
-      → made (λ (g : List ℕ × List ℕ). good g.0 g.1) bad (said n got) ≡ read_record good bad rows bytes
+      → made (paired good) bad (said n got) ≡ read_record good bad rows bytes
   unfolding read_record
   record_answers whole says = rw (eq-eqb _ _ whole) (answers 4 says)
 
   -- and of an area.
   pub area_answers : area_length (length bytes) ≡ true → said (slots laid) got ≡ read_with 15 laid bytes
-      → made (λ (g : List ℕ × List ℕ). good g.0 g.1) bad (said n got) ≡ read_area good bad rows bytes
+      → made (paired good) bad (said n got) ≡ read_area good bad rows bytes
   unfolding read_area
   area_answers whole says = rw whole (answers 15 says)
 
@@ -168,28 +171,19 @@ list_answers {rows} bytes good bad fault got table whole inside says =
     (ap (made good bad) (rw (table, eq-eqb _ _ whole) at says)
     ∙ made_answered (λ (v : List ℕ). v) good bad (and_then (read_bare rows (spread 8 bytes)) (λ vals end. obeying (fault vals) vals end)))
 
--- The rule of a list behind its reading: refused, at fault, and right.
-module _ (rows : List Row) (bytes : List ℕ) (fault : List ℕ → ℕ) (whole : length bytes ≡ 29) where
-  pub listed_refused : (r : Answer) → Err r ≡ bare_of rows bytes → Err r ≡ read_list Ok Err fault false rows bytes
-  unfolding read_list
-  listed_refused r says = rw (eq-eqb _ _ whole) (go (read_bare rows (spread 8 bytes)) says)
-    where
-      go : (o : Outcome (List ℕ)) → Err r ≡ answered Ok Err o → Err r ≡ answered Ok Err (and_then o (λ vals end. obeying (fault vals) vals end))
-      go (done vals end) e = cc
-      go (refused n at i) e = e
+-- A list is held to its rule behind its reading.
+abbrev pub held : (List ℕ → ℕ) → Result (List ℕ) Answer → Result (List ℕ) Answer
+held fault = made (λ (vals : List ℕ). pick (eqb (fault vals) 0) (Ok vals) (Err (refusal_at 6 (fault vals) 0))) Err
 
-  pub listed_against : {numbers : List ℕ} → Ok numbers ≡ bare_of rows bytes → (fault numbers ≡ 0 → ⊥) → Err (refusal_at 6 (fault numbers) 0) ≡ read_list Ok Err fault false rows bytes
-  unfolding read_list
-  listed_against {numbers} says wrong = rw (eq-eqb _ _ whole) (go (read_bare rows (spread 8 bytes)) says)
-    where
-      go : (o : Outcome (List ℕ)) → Ok numbers ≡ answered Ok Err o → Err (refusal_at 6 (fault numbers) 0) ≡ answered Ok Err (and_then o (λ vals end. obeying (fault vals) vals end))
-      go (done vals end) e = let same : numbers ≡ vals = cc in rw (← same, ne_eqb _ _ wrong)
-      go (refused n at i) e = cc
+pub listed_answers : (rows : List Row) (bytes : List ℕ) (fault : List ℕ → ℕ) (says : Result (List ℕ) Answer)
+    → length bytes ≡ 29 → says ≡ bare_of rows bytes → held fault says ≡ read_list Ok Err fault false rows bytes
+unfolding read_list
+listed_answers rows bytes fault says whole e = rw (eq-eqb _ _ whole) (ap (held fault) e ∙ go (read_bare rows (spread 8 bytes)))
+  where
+    choose : (b : Bool) (vals : List ℕ) (end : ℕ) → pick b (Ok vals) (Err (refusal_at 6 (fault vals) 0)) ≡ answered Ok Err (pick b (done vals end) (refused 6 (fault vals) 0))
+    choose true vals end = refl
+    choose false vals end = refl
 
-  pub listed_all : {numbers : List ℕ} → Ok numbers ≡ bare_of rows bytes → fault numbers ≡ 0 → Ok numbers ≡ read_list Ok Err fault false rows bytes
-  unfolding read_list
-  listed_all {numbers} says right = rw (eq-eqb _ _ whole) (go (read_bare rows (spread 8 bytes)) says)
-    where
-      go : (o : Outcome (List ℕ)) → Ok numbers ≡ answered Ok Err o → Ok numbers ≡ answered Ok Err (and_then o (λ vals end. obeying (fault vals) vals end))
-      go (done vals end) e = let same : numbers ≡ vals = cc in rw (← same, eq-eqb _ _ right)
-      go (refused n at i) e = cc
+    go : (o : Outcome (List ℕ)) → held fault (answered Ok Err o) ≡ answered Ok Err (and_then o (λ vals end. obeying (fault vals) vals end))
+    go (done vals end) = choose (eqb (fault vals) 0) vals end
+    go (refused n at i) = refl

@@ -10,7 +10,7 @@ ghost use Rattle.lab.specs.Inner.Reading.{Fits, said, read_with};
 use crate::{rules, run};
 use records::{Refusal, Why};
 
-// A table's numbers, with zeros behind them, and its margin in words of 64 bits.
+// A table's numbers, the first of N, and its margin in words of 64 bits.
 pub(crate) fn with_margin<const N: usize, const M: usize>(
     rows: &[u64],
     bytes: &[u8],

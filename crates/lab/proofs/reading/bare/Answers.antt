@@ -1,6 +1,5 @@
 use Rattle.std.proofs.Common.{◌≡◌, Err, map, rules}
 use Rattle.lab.specs.Layout.{row_of}
-use Rattle.lab.specs.Machine.{reader}
 use Rattle.lab.proofs.Answers.{row_low, bare_refused, bare_five, bare_all}
 use Rattle.lab.proofs.reading.bare.Goals as goal
 

@@ -1,7 +1,6 @@
 use Rattle.std.proofs.Common.{◌≡◌, Err, map, rules}
 use Rattle.rows.specs.Walk.{slots}
 use Rattle.lab.specs.Layout.{row_of}
-use Rattle.lab.specs.Machine.{reader}
 use Rattle.lab.proofs.Answers.{row_low, with_refused, with_all}
 use Rattle.lab.proofs.reading.with_margin.Goals as goal
 
