@@ -1,12 +1,8 @@
 use Rattle.std.proofs.Common.{ap, rules, ◌≡◌, Err, Ok}
 use Rattle.records.specs.Event.{event_told}
-use Rattle.records.proofs.Answering.{record_short}
 use Rattle.lab.proofs.Answers.{record_answers}
 use Rattle.lab.proofs.Tables.{event_slots}
 use Rattle.lab.proofs.event.Goals as goal
-
-pub returns-then-bytes-ne-BYTES : goal.returns-then-bytes-ne-BYTES
-returns-then-bytes-ne-BYTES c = ap event_told (record_short _ _ _ _ c.if-bytes-ne-BYTES.true)
 
 pub returns-in_err-numbers : goal.returns-in_err-numbers
 returns-in_err-numbers c =

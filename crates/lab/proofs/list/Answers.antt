@@ -1,16 +1,8 @@
 use Rattle.std.proofs.Common.{◌≡◌, Err, Ok, rules, arith}
 use Rattle.lists.specs.List.{list_fault}
-use Rattle.lists.proofs.Listing.{list_short, list_outside}
 use Rattle.lab.proofs.Answers.{list_answers}
 use Rattle.lab.proofs.Tables.{list_fits, list_slots}
 use Rattle.lab.proofs.list.Goals as goal
-
-pub returns-then-bytes-ne-BYTES : goal.returns-then-bytes-ne-BYTES
-returns-then-bytes-ne-BYTES c = list_short _ _ (list_fault c.args.n) _ _ _ c.if-bytes-ne-BYTES.true
-
-pub returns-then-outside : goal.returns-then-outside
-returns-then-outside c =
-    list_outside _ _ (list_fault c.args.n) _ _ _ c.if-bytes-ne-BYTES.false (rw c.outside.ensures at c.if-outside.true)
 
 pub listed-requires : goal.listed-requires
 listed-requires c =

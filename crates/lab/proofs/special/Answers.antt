@@ -1,15 +1,7 @@
-use Rattle.std.proofs.Common.{le-ltb, lt-ltb, ◌≡◌, Err, Ok, rules}
+use Rattle.std.proofs.Common.{le-ltb, ◌≡◌, Err, Ok, rules}
 use Rattle.lists.specs.Special.{special_fault}
-use Rattle.lists.proofs.Listing.{list_short, list_outside}
 use Rattle.lab.proofs.Answers.{list_answers}
 use Rattle.lab.proofs.special.Goals as goal
-
-pub returns-then-bytes-ne-BYTES : goal.returns-then-bytes-ne-BYTES
-returns-then-bytes-ne-BYTES c = list_short _ _ (special_fault c.args.s) _ _ _ c.if-bytes-ne-BYTES.true
-
-pub returns-then-s-gt-MOST : goal.returns-then-s-gt-MOST
-returns-then-s-gt-MOST c =
-    list_outside _ _ (special_fault c.args.s) _ _ _ c.if-bytes-ne-BYTES.false (lt-ltb _ _ c.if-s-gt-MOST.true)
 
 pub returns-in_err-numbers : goal.returns-in_err-numbers
 returns-in_err-numbers c =
