@@ -1,14 +1,14 @@
 -- From a run of the second reader to the answer about a record, an area or a list.
-use Rattle.std.proofs.Common.{Option, None, Some, is_some, ◌≡◌, ◌≢◌, ℕ, zero, suc, ◌+◌, ◌-◌, ◌*◌, ◌^◌, ◌<◌, ◌≤◌, Bool, true, false, List, [], length, take, drop, sym, refl, ap, ◌∙◌, arith, length-drop, length-take-le, drop-cons, take-take, eq-eqb, ne_eqb}
+use Rattle.std.proofs.Common.{Option, None, Some, is_some, Result, Ok, Err, ◌≡◌, ◌≢◌, ℕ, zero, suc, ◌+◌, ◌-◌, ◌*◌, ◌^◌, ◌<◌, ◌≤◌, Bool, true, false, List, [], length, take, drop, refl, ap, ◌∙◌, arith, length-drop, length-take-le, drop-cons, take-take, eq-eqb, ne_eqb, eqb}
 use Rattle.bits.specs.Bits.{spread, cut, cleared, leading}
-use Rattle.bits.proofs.Cutting.{length_cut, length-spread}
-use Rattle.rows.specs.Row.{Row}
-use Rattle.rows.specs.Walk.{done, refused, walk, boxes_at, holding, blank, read, read_bare, slots}
+use Rattle.bits.proofs.Cutting.{length-spread}
+use Rattle.rows.specs.Row.{Row, pick}
+use Rattle.rows.specs.Walk.{Outcome, done, refused, and_then, walk, boxes_at, holding, blank, read, read_bare, slots}
 use Rattle.rows.proofs.Naming.{read_names}
 use Rattle.rows.specs.Inner.Standing.{why_of}
 use Rattle.rows.specs.declared.Why.{Why}
 use Rattle.lab.specs.Machine.{begun, run}
-use Rattle.lab.specs.Inner.Reading.{met, Fits, by, Reads, ReadsBare}
+use Rattle.lab.specs.Inner.Reading.{met, Fits, said, read_with}
 use Rattle.lab.specs.Machine.{Reader}
 use Rattle.lab.proofs.Following.{outcome, followed}
 use Rattle.lab.proofs.Running.{length_cleared}
@@ -17,8 +17,8 @@ use Rattle.lab.specs.declared.state.State.{State}
 use Rattle.records.proofs.Telling.{why_one}
 use Rattle.records.proofs.Answering.{answer_none, answer_one}
 use Rattle.records.specs.declared.Refusal.{Refusal}
-use Rattle.records.specs.Answer.{as_answer, refusal, refusal_at, answered, valued, from, read_record, area_length, read_area}
-use Rattle.lists.specs.Listing.{read_list}
+use Rattle.records.specs.Answer.{as_answer, refusal, refusal_at, heard, answered, valued, from, read_record, area_length, read_area}
+use Rattle.lists.specs.Listing.{obeying, read_list}
 use Rattle.records.specs.Answer.{Answer}
 
 pub unmet : (w : Option Why) → is_some w ≡ false → why_of w ≡ 0
@@ -53,6 +53,10 @@ front_from l i zero h = refl
 front_from l i (suc n) h =
     let rest : suc i + n ≤ length l = omega arith in
     rw (drop-cons l i 0 (omega arith), front_from l (suc i) n rest)
+
+-- The reading of a list, before its rule.
+abbrev bare_of : List Row → List ℕ → Result (List ℕ) Answer
+bare_of rows bytes = answered Ok Err (read_bare rows (spread 8 bytes))
 
 module _ (rows : List Row) (most : ℕ) (bytes : List ℕ) (n : ℕ) (s : Reader) (fits : Fits rows (length bytes) n)
     (runs : s ≡ run rows (begun rows most (8 * length bytes)) (spread 8 bytes)) where
@@ -90,90 +94,96 @@ module _ (rows : List Row) (most : ℕ) (bytes : List ℕ) (n : ℕ) (s : Reader
       let inside : 0 + slots rows ≤ length (take n s.numbers) = omega (arith, fits.count) in
       rw same (front_from (take n s.numbers) 0 (slots rows) inside) ∙ take-take (slots rows) n s.numbers fits.count
 
-  module _ {r : Answer} {numbers margin : List ℕ} where
-    -- What the readings with a margin give,
-    pub reads_refused : (s.why ≡ 0 → ⊥) → r ≡ refusal_at s.why s.start s.row → Reads rows bytes r numbers margin
-    reads_refused why e =
-        record {
-          end = 0;
-          says = rw (e, ne_eqb _ _ why) (tells_refused why);
-          kept = λ z. absurd (why (ap (λ (r : Answer). r.number) (sym e) ∙ z));
-        }
+  module _ (r : Refusal) (one : as_answer r ≡ met s) where
+    at_fault : s.why ≡ 0 → ⊥
+    at_fault = met_one r s one
 
-    pub reads_all : s.why ≡ 0 → r ≡ refusal 0 0 → n ≤ length s.numbers → numbers ≡ take n s.numbers
-        → (words : ℕ) → margin ≡ cut 64 64 words (cleared s.start (spread 8 bytes)) → Reads rows bytes r numbers margin
-    reads_all ok e wide same words left =
-        let long : length margin ≡ words = ap length left ∙ length_cut 64 64 words (cleared s.start (spread 8 bytes)) in
-        record { end = s.start; says = rw (e, firsts wide same) (tells_read ok); kept = λ z. rw long left }
+    -- Refused, this is what a reading with a margin says,
+    pub with_refused : (k words : ℕ) → said k (Err r) ≡ read_with words rows bytes
+    with_refused k words = rw (tells_refused at_fault, one, ne_eqb _ _ at_fault)
 
-  module _ {r : Answer} {numbers : List ℕ} where
-    -- and those of a list.
-    pub bare_refused : (s.why ≡ 0 → ⊥) → r ≡ refusal_at s.why s.start s.row → ReadsBare rows bytes r numbers
+    -- and a list's.
+    pub bare_refused : Err (as_answer r) ≡ bare_of rows bytes
     unfolding read_bare
-    bare_refused why e = record { end = 0; says = rw (e, ne_eqb _ _ why, tells_refused why) }
+    bare_refused = rw (tells_refused at_fault, one, ne_eqb _ _ at_fault)
 
-    pub bare_five : s.why ≡ 0 → (one : ℕ) → one ≡ leading (cleared s.start (spread 8 bytes)) → one < 8 * length bytes
-        → r ≡ refusal_at 5 one 0 → ReadsBare rows bytes r numbers
+  module _ (none : refusal 0 0 ≡ met s) where
+    -- Read, this is what one with a margin says,
+    pub with_all : (words : ℕ) {numbers margin : List ℕ} → n ≤ length s.numbers → numbers ≡ take n s.numbers
+        → margin ≡ cut 64 64 words (cleared s.start (spread 8 bytes)) → said (slots rows) (Ok (numbers, margin)) ≡ read_with words rows bytes
+    with_all words wide same left = rw (tells_read (met_none s none), left, firsts wide same)
+
+    -- and a list's: 5 at the first one behind it.
+    pub bare_five : (one : ℕ) → one ≡ leading (cleared s.start (spread 8 bytes)) → one < 8 * length bytes
+        → Err (refusal_at 5 one 0) ≡ bare_of rows bytes
     unfolding read_bare blank
-    bare_five ok one first inside e =
+    bare_five one first inside =
         let long = length_cleared s.start bytes in
         let short : leading (cleared s.start (spread 8 bytes)) ≡ length (cleared s.start (spread 8 bytes)) → ⊥ = λ h. omega arith in
-        record { end = 0; says = rw (tells_read ok, ne_eqb _ _ short, e, first) }
+        rw (tells_read (met_none s none), ne_eqb _ _ short, first)
 
-    pub bare_all : s.why ≡ 0 → leading (cleared s.start (spread 8 bytes)) ≡ length (cleared s.start (spread 8 bytes))
-        → r ≡ refusal 0 0 → n ≤ length s.numbers → numbers ≡ take n s.numbers → ReadsBare rows bytes r numbers
+    pub bare_all : {numbers : List ℕ} → leading (cleared s.start (spread 8 bytes)) ≡ length (cleared s.start (spread 8 bytes))
+        → slots rows ≡ n → numbers ≡ take n s.numbers → Ok numbers ≡ bare_of rows bytes
     unfolding read_bare blank
-    bare_all ok all e wide same = record { end = s.start; says = rw (tells_read ok, eq-eqb _ _ all, e, firsts wide same) }
+    bare_all all exact same = rw (tells_read (met_none s none), eq-eqb _ _ all, same, exact)
+
+-- An answer made of what a reading said, and a value made of numbers and a margin.
+abbrev pub made : {V A : Type 0} → (V → A) → (Answer → A) → Result V Answer → A
+made good bad (Ok v) = good v
+made good bad (Err r) = bad r
+
+abbrev pub paired : {A : Type 0} → (List ℕ → List ℕ → A) → List ℕ × List ℕ → A
+paired good got = good got.0 got.1
+
+made_answered : {V W A : Type 0} (f : V → W) (good : W → A) (bad : Answer → A) (o : Outcome V)
+    → made good bad (answered (λ v. Ok (f v)) Err o) ≡ answered (λ v. good (f v)) bad o
+made_answered f good bad (done a end) = refl
+made_answered f good bad (refused n at i) = refl
 
 -- The answers that readings come to, of rows that are a table of n slots.
-module _ {A : Type 0} {rows laid : List Row} {bytes : List ℕ} {r : Answer} {numbers : List ℕ} (n : ℕ)
-    (table : laid ≡ rows) (count : slots rows ≡ n) where
-  module _ {margin : List ℕ} (words : ℕ) (good : List ℕ → List ℕ → A) (bad : Answer → A) (long : length margin ≡ words)
-      (reads : Reads laid bytes r numbers margin) where
-    -- A reading is one of the table.
-    says : read rows (spread 8 bytes) ≡ by r (holding (spread 8 bytes) (from 0 n numbers) reads.end) reads.end
-    says = rw (table, count) at reads.says
+module _ {A : Type 0} {rows laid : List Row} (bytes : List ℕ) (n : ℕ) (table : laid ≡ rows) (count : slots rows ≡ n)
+    (good : List ℕ → List ℕ → A) (bad : Answer → A) (got : Result (List ℕ × List ℕ) Refusal) where
+  answers : (words : ℕ) → said (slots laid) got ≡ read_with words laid bytes
+      → made (paired good) bad (said n got) ≡ answered (valued words good) bad (read rows (spread 8 bytes))
+  answers words says =
+      ap (made (paired good) bad) (rw (table, count) at says)
+      ∙ made_answered (valued words (λ vals margin. (vals, margin))) (paired good) bad (read rows (spread 8 bytes))
 
-    stops : (r.number ≡ 0 → ⊥) → bad r ≡ answered (valued words good) bad (read rows (spread 8 bytes))
-    stops why = rw (says, ne_eqb _ _ why)
+  -- Of a record,
+  pub record_answers : length bytes ≡ 29 → said (slots laid) got ≡ read_with 4 laid bytes
+      → made (paired good) bad (said n got) ≡ read_record good bad rows bytes
+  unfolding read_record
+  record_answers whole says = rw (eq-eqb _ _ whole) (answers 4 says)
 
-    gives : r.number ≡ 0 → good (from 0 n numbers) margin ≡ answered (valued words good) bad (read rows (spread 8 bytes))
-    gives ok = rw (says, eq-eqb _ _ ok) (ap (good (from 0 n numbers)) (rw long at (reads.kept ok)))
+  -- and of an area.
+  pub area_answers : area_length (length bytes) ≡ true → said (slots laid) got ≡ read_with 15 laid bytes
+      → made (paired good) bad (said n got) ≡ read_area good bad rows bytes
+  unfolding read_area
+  area_answers whole says = rw whole (answers 15 says)
 
-  module _ {margin : List ℕ} (good : List ℕ → List ℕ → A) (bad : Answer → A) (reads : Reads laid bytes r numbers margin) where
-    -- Of a record: refused, and read.
-    pub record_stops : length bytes ≡ 29 → length margin ≡ 4 → (r.number ≡ 0 → ⊥) → bad r ≡ read_record good bad rows bytes
-    unfolding read_record
-    record_stops whole long why = rw (eq-eqb _ _ whole) (stops 4 good bad long reads why)
+-- The answer that the reading of a list comes to.
+pub list_answers : {A : Type 0} {rows laid : List Row} (bytes : List ℕ) {outside : Bool} (good : List ℕ → A) (bad : Answer → A) (fault : List ℕ → ℕ)
+    (got : Result (List ℕ) Refusal) → laid ≡ rows → length bytes ≡ 29 → outside ≡ false
+    → heard got ≡ read_list Ok Err fault false laid bytes → made good bad (heard got) ≡ read_list good bad fault outside rows bytes
+unfolding read_list
+list_answers {rows} bytes good bad fault got table whole inside says =
+    rw (eq-eqb _ _ whole, inside)
+    (ap (made good bad) (rw (table, eq-eqb _ _ whole) at says)
+    ∙ made_answered (λ (v : List ℕ). v) good bad (and_then (read_bare rows (spread 8 bytes)) (λ vals end. obeying (fault vals) vals end)))
 
-    pub record_gives : length bytes ≡ 29 → length margin ≡ 4 → r.number ≡ 0 → good (from 0 n numbers) margin ≡ read_record good bad rows bytes
-    unfolding read_record
-    record_gives whole long ok = rw (eq-eqb _ _ whole) (gives 4 good bad long reads ok)
+-- A list is held to its rule behind its reading.
+abbrev pub held : (List ℕ → ℕ) → Result (List ℕ) Answer → Result (List ℕ) Answer
+held fault = made (λ (vals : List ℕ). pick (eqb (fault vals) 0) (Ok vals) (Err (refusal_at 6 (fault vals) 0))) Err
 
-    -- Of an area.
-    pub area_stops : area_length (length bytes) ≡ true → length margin ≡ 15 → (r.number ≡ 0 → ⊥) → bad r ≡ read_area good bad rows bytes
-    unfolding read_area
-    area_stops whole long why = rw whole (stops 15 good bad long reads why)
+pub listed_answers : (rows : List Row) (bytes : List ℕ) (fault : List ℕ → ℕ) (says : Result (List ℕ) Answer)
+    → length bytes ≡ 29 → says ≡ bare_of rows bytes → held fault says ≡ read_list Ok Err fault false rows bytes
+unfolding read_list
+listed_answers rows bytes fault says whole e = rw (eq-eqb _ _ whole) (ap (held fault) e ∙ go (read_bare rows (spread 8 bytes)))
+  where
+    choose : (b : Bool) (vals : List ℕ) (end : ℕ) → pick b (Ok vals) (Err (refusal_at 6 (fault vals) 0)) ≡ answered Ok Err (pick b (done vals end) (refused 6 (fault vals) 0))
+    choose true vals end = refl
+    choose false vals end = refl
 
-    pub area_gives : area_length (length bytes) ≡ true → length margin ≡ 15 → r.number ≡ 0 → good (from 0 n numbers) margin ≡ read_area good bad rows bytes
-    unfolding read_area
-    area_gives whole long ok = rw whole (gives 15 good bad long reads ok)
-
-  -- Of a list, which then is held to its rule.
-  module _ (good : List ℕ → A) (bad : Answer → A) (fault : List ℕ → ℕ) {outside : Bool} (reads : ReadsBare laid bytes r numbers)
-      (whole : length bytes ≡ 29) (inside : outside ≡ false) where
-    says_bare : read_bare rows (spread 8 bytes) ≡ by r (from 0 n numbers) reads.end
-    says_bare = rw (table, count) at reads.says
-
-    pub list_stops : (r.number ≡ 0 → ⊥) → bad r ≡ read_list good bad fault outside rows bytes
-    unfolding read_list
-    list_stops why = rw (eq-eqb _ _ whole, inside, says_bare, ne_eqb _ _ why)
-
-    pub list_against : r.number ≡ 0 → (fault (from 0 n numbers) ≡ 0 → ⊥)
-        → bad (refusal_at 6 (fault (from 0 n numbers)) 0) ≡ read_list good bad fault outside rows bytes
-    unfolding read_list
-    list_against ok wrong = rw (eq-eqb _ _ whole, inside, says_bare, eq-eqb _ _ ok, ne_eqb _ _ wrong)
-
-    pub list_gives : r.number ≡ 0 → fault (from 0 n numbers) ≡ 0 → good (from 0 n numbers) ≡ read_list good bad fault outside rows bytes
-    unfolding read_list
-    list_gives ok right = rw (eq-eqb _ _ whole, inside, says_bare, eq-eqb _ _ ok, eq-eqb _ _ right)
+    go : (o : Outcome (List ℕ)) → held fault (answered Ok Err o) ≡ answered Ok Err (and_then o (λ vals end. obeying (fault vals) vals end))
+    go (done vals end) = choose (eqb (fault vals) 0) vals end
+    go (refused n at i) = refl

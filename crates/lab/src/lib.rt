@@ -3,6 +3,7 @@
 #![tactic(auto)]
 
 ghost use Rattle.std.specs.Prelude.{◌≡◌, length};
+ghost use Rattle.rows.specs.Walk.{slots};
 ghost use Rattle.records.specs.Answer.{answer_of, heard};
 ghost use Rattle.records.specs.Environment.{environment_told, environment_read};
 ghost use Rattle.records.specs.Event.{event_told, event_read};
@@ -10,7 +11,7 @@ ghost use Rattle.holder.specs.Holder.{holder_read, holder_answer};
 ghost use Rattle.contract.specs.Contract.{table_of, contract_told, contract_read};
 ghost use Rattle.lists.specs.List.{list_read, list_answer};
 ghost use Rattle.lists.specs.Special.{special_read, special_answer};
-ghost use Rattle.lab.specs.Inner.Reading.{Reads};
+ghost use Rattle.lab.specs.Inner.Reading.{said, read_with};
 
 use contract::Contract;
 use holder::Holder;
@@ -30,28 +31,26 @@ pub mod run;
 pub mod state;
 
 // The Environment in a lent record.
+#[tactic(auto, unfolding(records::specs::Answer::read_record), using(crate::proofs::Tables::environment_fits))]
 pub fn environment(bytes: &[u8]) -> Result<Environment, Refusal>
     ensures { environment_told (heard result) ≡ environment_told (environment_read bytes.now) }
 {
     if bytes.len() != BYTES {
         return Err(Refusal::WRONG_LENGTH);
     }
-    let mut numbers = [0u32; 10];
-    let mut margin = [0u64; 4];
-    reading::with_margin(&layouts::environment(), bytes, &mut numbers, &mut margin)?;
+    let (numbers, margin) = reading::with_margin(&layouts::environment(), bytes)?;
     Ok(Environment::of(numbers, Margin::of(margin)))
 }
 
 // The Event in a lent record.
+#[tactic(auto, unfolding(records::specs::Answer::read_record), using(crate::proofs::Tables::event_fits))]
 pub fn event(bytes: &[u8]) -> Result<Event, Refusal>
     ensures { event_told (heard result) ≡ event_told (event_read bytes.now) }
 {
     if bytes.len() != BYTES {
         return Err(Refusal::WRONG_LENGTH);
     }
-    let mut numbers = [0u32; 36];
-    let mut margin = [0u64; 4];
-    reading::with_margin(&layouts::event(), bytes, &mut numbers, &mut margin)?;
+    let (numbers, margin) = reading::with_margin(&layouts::event(), bytes)?;
     Ok(Event::of(numbers, Margin::of(margin)))
 }
 
@@ -62,9 +61,7 @@ pub fn holder(bytes: &[u8]) -> Result<Holder, Refusal>
     if !holder::is_area(bytes.len()) {
         return Err(Refusal::WRONG_LENGTH);
     }
-    let mut numbers = [0u32; 111];
-    let mut margin = [0u64; 15];
-    reading::with_margin(&layouts::holder(), bytes, &mut numbers, &mut margin)?;
+    let (numbers, margin) = reading::with_margin(&layouts::holder(), bytes)?;
     Ok(Holder::of(numbers, margin))
 }
 
@@ -78,29 +75,23 @@ pub fn contract(bytes: &[u8], kind: u32) -> Result<Contract, Refusal>
     if !contract::known(kind) {
         return Err(Refusal::UNKNOWN_TYPE);
     }
-    let mut numbers = [0u32; 45];
-    let mut margin = [0u64; 4];
-    contract_numbers(bytes, kind, &mut numbers, &mut margin)?;
+    let (numbers, margin) = of_kind(bytes, kind)?;
     Ok(Contract::of(kind, numbers, Margin::of(margin)))
 }
 
 #[tactic(auto, using(crate::proofs::Tables::carnet_fits, crate::proofs::Tables::urban_fits))]
-fn contract_numbers(
-    bytes: &[u8],
-    kind: u32,
-    numbers: &mut [u32],
-    margin: &mut [u64],
-) -> Result<(), Refusal>
-    requires { (length bytes.now ≡ 29) × ((length numbers.old ≡ 45) × (length margin.old ≡ 4)) }
-    ensures { Reads (table_of kind) bytes.now (answer_of result) numbers.new margin.new }
+fn of_kind(bytes: &[u8], kind: u32) -> Result<([u32; 45], [u64; 4]), Refusal>
+    requires { length bytes.now ≡ 29 }
+    ensures { said (slots (table_of kind)) result ≡ read_with 4 (table_of kind) bytes.now }
 {
     match kind {
-        Contract::CARNET => reading::with_margin(&layouts::carnet(), bytes, numbers, margin),
-        _ => reading::with_margin(&layouts::urban(), bytes, numbers, margin),
+        Contract::CARNET => reading::with_margin(&layouts::carnet(), bytes),
+        _ => reading::with_margin(&layouts::urban(), bytes),
     }
 }
 
 // The contract list in a lent record, on a card with n contract records, the first c of them with counters.
+#[tactic(auto, unfolding(lists::specs::Listing::read_list))]
 pub fn list(bytes: &[u8], n: u32, c: u32) -> Result<ContractList, Refusal>
     ensures { list_answer result ≡ list_read n c bytes.now }
 {
@@ -110,15 +101,12 @@ pub fn list(bytes: &[u8], n: u32, c: u32) -> Result<ContractList, Refusal>
     if list::outside(n, c) {
         return Err(Refusal::OUTSIDE_LIMITS);
     }
-    let mut numbers = [0u32; 49];
-    reading::bare(&layouts::contract_list(), n, bytes, &mut numbers)?;
-    if let Some(entry) = rules::at_fault(&numbers, 8, 6, Entry::FULL, n) {
-        return Err(rules::against(entry));
-    }
+    let numbers = reading::listed(&layouts::contract_list(), bytes, 8, 6, Entry::FULL, n)?;
     Ok(ContractList::of(c, numbers))
 }
 
 // The special event list in a lent record, on a card with s special event records.
+#[tactic(auto, unfolding(lists::specs::Listing::read_list), using(crate::proofs::Tables::special_fits, crate::proofs::Tables::special_slots))]
 pub fn special(bytes: &[u8], s: u32) -> Result<SpecialList, Refusal>
     ensures { special_answer result ≡ special_read s bytes.now }
 {
@@ -128,10 +116,6 @@ pub fn special(bytes: &[u8], s: u32) -> Result<SpecialList, Refusal>
     if SpecialList::MOST < s {
         return Err(Refusal::OUTSIDE_LIMITS);
     }
-    let mut numbers = [0u32; 21];
-    reading::bare(&layouts::special_list(), 0, bytes, &mut numbers)?;
-    if let Some(entry) = rules::at_fault(&numbers, 4, 5, SpecialEntry::FULL, s) {
-        return Err(rules::against(entry));
-    }
+    let numbers = reading::listed(&layouts::special_list(), bytes, 4, 5, SpecialEntry::FULL, s)?;
     Ok(SpecialList::of(numbers))
 }

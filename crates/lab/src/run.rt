@@ -30,13 +30,15 @@ pub(crate) fn run(rows: &[u64], most: u32, bytes: &[u8]) -> State
 }
 
 // The margin behind the last field, which ends at a bit: words of 64 bits, zeros before that bit and behind the last.
-pub(crate) fn margin(bytes: &[u8], end: u32, words: &mut [u64])
-    requires { length words.old ≤ 15 }
-    ensures { words.new ≡ cut 64 64 (length words.old) (cleared end (spread 8 bytes.now)) }
+pub(crate) fn margin<const M: usize>(bytes: &[u8], end: u32) -> [u64; M]
+    requires { M ≤ 15 }
+    ensures { result ≡ cut 64 64 M (cleared end (spread 8 bytes.now)) }
 {
+    let mut words = [0; M];
     for (k, word) in words.iter_mut().enumerate() {
         *word = margin_word(bytes, end, 64 * k as u32);
     }
+    words
 }
 
 // The word of a margin that begins at a bit.

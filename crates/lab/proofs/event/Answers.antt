@@ -1,23 +1,17 @@
-use Rattle.std.proofs.Common.{ap, rules, ◌≡◌, Err, refl}
+use Rattle.std.proofs.Common.{ap, rules, ◌≡◌, Err, Ok}
 use Rattle.records.specs.Event.{event_told}
-use Rattle.records.proofs.Answering.{record_short}
-use Rattle.rows.proofs.Stepping.{numbered}
-use Rattle.lab.proofs.Answers.{record_stops, record_gives}
-use Rattle.lab.proofs.Tables.{event_fits, event_slots}
+use Rattle.lab.proofs.Answers.{record_answers}
+use Rattle.lab.proofs.Tables.{event_slots}
 use Rattle.lab.proofs.event.Goals as goal
 
-pub returns-then-bytes-ne-BYTES : goal.returns-then-bytes-ne-BYTES
-returns-then-bytes-ne-BYTES c = ap event_told (record_short _ _ _ _ c.if-bytes-ne-BYTES.true)
-
-pub with_margin-requires : goal.with_margin-requires
-with_margin-requires c = (rw (c.event.ensures 0, c.if-bytes-ne-BYTES.false) event_fits, search rules)
-
-pub returns-in_err-with_margin : goal.returns-in_err-with_margin
-returns-in_err-with_margin c =
-    let is : c.from_residual.result ≡ Err c.in_err-with_margin.field-0.0 = search rules in
-    rw is (ap event_told (record_stops 36 (c.event.ensures 0) event_slots _ _ c.in_err-with_margin.ensures c.if-bytes-ne-BYTES.false (search rules) (numbered c.in_err-with_margin.field-0.0.why)))
+pub returns-in_err-numbers : goal.returns-in_err-numbers
+returns-in_err-numbers c =
+    let r = c.in_err-numbers.field-0.0 in
+    let is : c.from_residual.result ≡ Err r = search rules in
+    rw is (ap event_told (record_answers _ 36 (c.event.ensures 0) event_slots _ _ (Err r) c.if-bytes-ne-BYTES.false c.in_err-numbers.ensures))
 
 pub returns : goal.returns
 returns c =
+    let got = c.in_ok-numbers in
     rw (c.of-2.ensures, c.of.ensures)
-    (ap event_told (record_gives 36 (c.event.ensures 0) event_slots _ _ c.in_ok-with_margin.ensures c.if-bytes-ne-BYTES.false (search rules) refl))
+    (ap event_told (record_answers _ 36 (c.event.ensures 0) event_slots _ _ (Ok (got.numbers, got.margin)) c.if-bytes-ne-BYTES.false got.ensures))

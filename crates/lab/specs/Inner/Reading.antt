@@ -1,9 +1,10 @@
 -- What the steps of the lab's readers give.
-use Rattle.std.specs.Prelude.{◌≡◌, ℕ, ◌*◌, ◌^◌, ◌<◌, ◌≤◌, Bool, true, ◌&&◌, ◌||◌, List, [], ◌∷◌, length, ◌==◌, nat_le, nat_lt}
-use Rattle.bits.specs.Bits.{spread, cut, cleared}
+use Rattle.std.specs.Prelude.{◌≡◌, ℕ, ◌*◌, ◌^◌, ◌<◌, ◌≤◌, Bool, true, ◌&&◌, ◌||◌, List, [], ◌∷◌, length, ◌==◌, nat_le, nat_lt, Result, Ok, Err}
+use Rattle.bits.specs.Bits.{spread}
 use Rattle.rows.specs.Row.{Row, pick}
-use Rattle.rows.specs.Walk.{Outcome, done, refused, total, holding, read, read_bare, slots}
-use Rattle.records.specs.Answer.{Answer, refusal, refusal_at, from}
+use Rattle.rows.specs.Walk.{total, read, slots}
+use Rattle.records.specs.declared.Refusal.{Refusal}
+use Rattle.records.specs.Answer.{Answer, refusal, refusal_at, from, as_answer, answered, valued}
 use Rattle.lab.specs.Machine.{Reader}
 
 -- Boxes of at most 32 bits.
@@ -31,17 +32,11 @@ pub record Fits (rows : List Row) (bytes numbers : ℕ) : Type 0 where
 abbrev pub met : Reader → Answer
 met s = pick (s.why == 0) (refusal 0 0) (refusal_at s.why s.start s.row)
 
--- An outcome as a refusal, none being of number 0, beside what was read.
-abbrev pub by : {A : Type 0} → Answer → A → ℕ → Outcome A
-by r a end = pick (r.number == 0) (done a end) (refused r.number r.place r.field)
+-- What a reading says in code: the first n numbers, and the margin in words; or the refusal.
+abbrev pub said : ℕ → Result (List ℕ × List ℕ) Refusal → Result (List ℕ × List ℕ) Answer
+said n (Ok got) = Ok (from 0 n got.0, got.1)
+said n (Err r) = Err (as_answer r)
 
--- The reading of a table: where there is no refusal, the first of some numbers are its own, and some words are its margin.
-pub record Reads (rows : List Row) (bytes : List ℕ) (r : Answer) (numbers margin : List ℕ) : Type 0 where
-  pub end : ℕ
-  pub says : read rows (spread 8 bytes) ≡ by r (holding (spread 8 bytes) (from 0 (slots rows) numbers) end) end
-  pub kept : r.number ≡ 0 → margin ≡ cut 64 64 (length margin) (cleared end (spread 8 bytes))
-
--- The reading of a list.
-pub record ReadsBare (rows : List Row) (bytes : List ℕ) (r : Answer) (numbers : List ℕ) : Type 0 where
-  pub end : ℕ
-  pub says : read_bare rows (spread 8 bytes) ≡ by r (from 0 (slots rows) numbers) end
+-- The reading of a table, with so many words of its margin.
+abbrev pub read_with : ℕ → List Row → List ℕ → Result (List ℕ × List ℕ) Answer
+read_with words rows bytes = answered (valued words (λ vals margin. Ok (vals, margin))) Err (read rows (spread 8 bytes))

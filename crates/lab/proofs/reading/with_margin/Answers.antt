@@ -1,22 +1,18 @@
-use Rattle.std.proofs.Common.{◌≡◌, Err, map, length, refl, ◌∙◌, rules, ne_eqb}
+use Rattle.std.proofs.Common.{◌≡◌, Err, map, rules}
+use Rattle.rows.specs.Walk.{slots}
 use Rattle.lab.specs.Layout.{row_of}
-use Rattle.lab.specs.Machine.{reader}
-use Rattle.lab.proofs.Answers.{met_one, met_none, row_low, reads_refused, reads_all}
+use Rattle.lab.proofs.Answers.{row_low, with_refused, with_all}
 use Rattle.lab.proofs.reading.with_margin.Goals as goal
 
 pub met-requires : goal.met-requires
-met-requires c = λ why.
-    row_low (map (row_of 0) c.args.rows.now) 0 c.args.bytes.now (length c.args.numbers.now) _ c.requires.0
-    c.run-state.ensures why
+met-requires g c = λ why.
+    row_low (map (row_of 0) c.args.rows.now) 0 c.args.bytes.now g.row.N _ c.requires.0 c.run-state.ensures why
 
 pub returns-in_err-met : goal.returns-in_err-met
-returns-in_err-met c =
-    let one = c.in_err-met.ensures in
-    let why = met_one _ (reader c.run-state.result) one in
+returns-in_err-met g c =
     let is : c.from_residual.result ≡ Err c.in_err-met.field-0.0 = search rules in
-    rw is (reads_refused _ _ _ _ _ c.requires.0 c.run-state.ensures why (one ∙ rw (ne_eqb _ _ why)))
+    rw is (with_refused _ _ _ _ _ c.requires.0 c.run-state.ensures _ c.in_err-met.ensures (slots (map (row_of 0) c.args.rows.now)) _)
 
 pub returns : goal.returns
-returns c =
-    reads_all _ _ _ _ _ c.requires.0 c.run-state.ensures (met_none (reader c.run-state.result) c.in_ok-met.ensures) refl
-    (search rules) c.copy_from_slice.ensures.after (length c.args.margin.now) c.margin.ensures
+returns g c =
+    with_all _ _ _ _ _ c.requires.0 c.run-state.ensures c.in_ok-met.ensures _ (search rules) c.copy_from_slice.ensures.after c.margin.ensures
