@@ -1,9 +1,8 @@
-use mathlib.Core.Path.{◌≡◌, refl, ◌∙◌}
+use mathlib.Core.Path.{◌≡◌, refl}
 use native.Mathlib.Omega.{arith}
 use lib.ListN.{length}
 use Rattle.rows.specs.Table.Special.{special_list}
 use Rattle.rows.specs.Inner.Line.{given, ◌◂◌}
-use Rattle.rows.proofs.Running.{puts_long}
 use Rattle.lists.proofs.Listing.{length_of_map}
 use Rattle.lists.proofs.Rowing.{putting_more, putting_all}
 use Rattle.lists.proofs.special.Laws.{numbers_flat}
@@ -15,9 +14,6 @@ loop-k-init c = record { upto = omega arith; ready = c.at_most-head.ensures.read
 
 pub loop-k-preserved : goal.loop-k-preserved
 loop-k-preserved c = putting_more c.loop-k.invariant 5 (λ e. refl) _ _ _ (omega arith) c.put_entry-c.ensures
-
-pub shape_of-draft : goal.shape_of-draft
-shape_of-draft c = puts_long c.loop-k.invariant.puts ∙ c.at_most-head.auto.draft
 
 pub returns : goal.returns
 unfolding special_list
