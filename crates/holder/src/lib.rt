@@ -336,22 +336,14 @@ fn take_profiles(words: &[u64], end: u32, fields: Part<Holder>) -> Part<Holder>
     ensures { Taken words.now end (block 12 16) (from 0 82 (numbers_of fields.value)) (stand fields.last)
         (from 0 98 (numbers_of result.value)) (stand result.last) }
 {
-    let c = fields.last;
     let mut h = fields.value;
     let count = h.profile_count;
-    let p1 = take_profile(words, end, c, count, 0);
-    let c = p1.last;
-    let p2 = take_profile(words, end, c, count, 1);
-    let c = p2.last;
-    let p3 = take_profile(words, end, c, count, 2);
-    let c = p3.last;
-    let p4 = take_profile(words, end, c, count, 3);
-    let last = p4.last;
-    let profile1 = p1.value;
-    let profile2 = p2.value;
-    let profile3 = p3.value;
-    let profile4 = p4.value;
-    h.profiles = [profile1, profile2, profile3, profile4];
+    let mut last = fields.last;
+    for k in 0..4 {
+        let taken = take_profile(words, end, last, count, k as u32);
+        last = taken.last;
+        h.profiles[k] = taken.value;
+    }
     Part { value: h, last }
 }
 
@@ -469,17 +461,11 @@ fn put_fields(draft: &mut [u64], room: u32, h: Holder) -> Cursor
     requires { (length draft.old ≡ 31) × (room ≤ 928) }
     ensures { Given room (numbers_of h) holder [] draft.old start (numbers_of h) draft.new (stand result) }
 {
-    let profiles = h.profiles;
-    let profile1 = profiles[0];
-    let profile2 = profiles[1];
-    let profile3 = profiles[2];
-    let profile4 = profiles[3];
-    let c = put_person(draft, room, h);
-    let c = put_identity(draft, room, c, h);
-    let c = put_profile(draft, room, c, h.profile_count, 0, profile1);
-    let c = put_profile(draft, room, c, h.profile_count, 1, profile2);
-    let c = put_profile(draft, room, c, h.profile_count, 2, profile3);
-    let c = put_profile(draft, room, c, h.profile_count, 3, profile4);
+    let person = put_person(draft, room, h);
+    let mut c = put_identity(draft, room, person, h);
+    for (k, profile) in h.profiles.iter().enumerate() {
+        c = put_profile(draft, room, c, h.profile_count, k as u32, *profile);
+    }
     put_data(draft, room, c, h)
 }
 

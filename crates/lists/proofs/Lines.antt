@@ -1,4 +1,4 @@
--- The loops of the contract list's reader and writer: an entry more of the table's line, and the line of the whole table.
+-- The loop of the contract list's reader: an entry more of the table's line, and the line of the whole table.
 use Prim.Native.Nat.{ℕ, zero, suc, ◌+◌, ◌-◌, ◌*◌, ◌/◌, ◌%◌, ◌^◌, ◌≤◌, ◌<◌}
 use mathlib.Core.List.{List, [], ◌∷◌, ◌++◌, append-nil, append_assoc}
 use mathlib.Core.Bool.{Bool, true, false, not, ◌&&◌}
@@ -7,7 +7,7 @@ use native.Mathlib.Omega.{arith}
 use native.Mathlib.Numerals.{add-one}
 use lib.Dec.{eqb, ltb, leb}
 use lib.ListN.{length, get_or, set, take, drop, replicate, length-append, length-set, take-append-drop, get_or-append}
-use lib.Seq.{get_or_at, length-take-le, take_all, split_at, take-suc, take-suc-set, drop-set-lt, drop-drop, drop_at}
+use lib.Seq.{get_or_at, length-take-le, take-suc-set, drop-set-lt, drop-drop}
 use lib.Pow as pow
 use borrow.Author.Tests.{eq-eqb, ne_eqb, le-ltb, ltb-false, eqb-true, leb-true}
 use Rattle.bits.specs.Bits.{bit, number, cut, spread}
@@ -15,16 +15,16 @@ use Rattle.bits.specs.Inner.Words.{number_at}
 use Rattle.bits.proofs.Cutting.{length-spread}
 use Rattle.rows.specs.Row.{Row, always, box_most, pick}
 use Rattle.rows.specs.Walk.{done, refused, and_then, field, exceeds}
-use Rattle.rows.specs.Inner.Step.{passes, admitted, resume, Ready, Took, Drafted, Ended}
+use Rattle.rows.specs.Inner.Step.{passes, admitted, resume, Ready, Took, Ended}
 use Rattle.rows.proofs.Stepping.{clear}
-use Rattle.rows.specs.Inner.Line.{start, Takes, taken, ◌▸◌, Taken, Puts}
+use Rattle.rows.specs.Inner.Line.{start, Takes, taken, ◌▸◌, Taken}
 use Rattle.rows.specs.Table.BestContracts.{entry, contract_list}
 use Rattle.rows.specs.Inner.Standing.{Standing}
 use Rattle.rows.specs.declared.When.TheVariants.{Always, Bit}
 use Rattle.rows.specs.declared.Rule.TheVariants.{Any, Most, Tariff}
 use Rattle.rows.proofs.Taking.{took_box_held, took_tariff_held, held_part, ended_refused}
 use Rattle.rows.proofs.Margins.{both}
-use Rattle.rows.proofs.Running.{takes_append, stopped, puts_append, Skips, skips_none, skips_more, skips_ended}
+use Rattle.rows.proofs.Running.{takes_append, stopped, Skips, skips_none, skips_more, skips_ended}
 use Rattle.rows.proofs.Stepping.{count_twice}
 use Rattle.rows.proofs.Tables.{list_rows}
 use Rattle.records.specs.Inner.Met.{met}
@@ -32,7 +32,7 @@ use Rattle.records.proofs.Inverse.{named_all}
 use Rattle.records.proofs.Answering.{all_words}
 use Rattle.lists.specs.List.{entry_numbers, entry_of, numbers_of, list_of, outside, list_fault, got_list, no_tally, no_list, list_read}
 use Rattle.lists.specs.Tally.{used_up, tally_of}
-use Rattle.lists.specs.Inner.Steps.{obeyed, EntryTook, RestTook, EntryGave}
+use Rattle.lists.specs.Inner.Steps.{obeyed, EntryTook, RestTook}
 use Rattle.lists.specs.Inner.Judging.{Judges, spent_of}
 use Rattle.lists.specs.declared.list.Entry.{Entry}
 use Rattle.lists.specs.declared.list.ContractList.{ContractList}
@@ -328,43 +328,3 @@ module _ {bytes : List ℕ} {n counters : ℕ} {words : List ℕ} {count : ℕ} 
       sofar_denied why =
           list_refused (λ vals. got_list (list_of counters vals)) no_list (list_fault n) (outside n counters) (contract_list n) bytes words (numbers_of l) skipped.last e f
           (omega (arith, list_rows n)) so.whole so.inside so.cuts sofar_taken (skips_ended e skipped so.clear ended) (ruled ∙ rw sofar_fault) why
-
--- What the writer's loop has come to before entry k, the count put before it.
-pub record Putting (l : ContractList) (xs : List ℕ) (b : Standing) (ys : List ℕ) (c : Standing) (k : ℕ) : Type 0 where
-  pub upto : k ≤ 8
-  pub ready : Drafted ys 232 c
-  pub puts : Puts 232 (numbers_of l) (rows_from entry 0 k) (l.count ∷ []) xs b (l.count ∷ flat entry_numbers (take k l.entries)) ys c
-
-module _ {l : ContractList} {xs : List ℕ} {b : Standing} {ys : List ℕ} {c : Standing} {k : ℕ} (eight : length l.entries ≡ 8) (so : Putting l xs b ys c k) where
-  pub putting_more : (d : Entry) (zs : List ℕ) (e : Standing)
-      → k < 8
-      → EntryGave ys zs (entry k) (1 + 6 * k) l.count c (entry_numbers (get_or l.entries k d)) e
-      → Putting l xs b zs e (k + 1)
-  putting_more d zs e more gave =
-      let own : Entry = get_or l.entries k d in
-      let seen : List ℕ = l.count ∷ flat entry_numbers (take k l.entries) in
-      let rest : List ℕ = flat entry_numbers (drop (suc k) l.entries) in
-      let inside : k < length l.entries = omega arith in
-      let long = seen_long entry_numbers 6 (λ e. refl) l.count l.entries k (omega arith) in
-      let next : take (k + 1) l.entries ≡ take k l.entries ++ (own ∷ []) = rw (add-one k) (take-suc l.entries k d inside) in
-      let numbers = seen_more entry_numbers l.count (take k l.entries) (take (k + 1) l.entries) own next in
-      let parts : l.entries ≡ take k l.entries ++ (own ∷ drop (suc k) l.entries) = split_at l.entries k d inside in
-      let all : numbers_of l ≡ seen ++ (entry_numbers own ++ rest) =
-      numbers_flat l eight
-      ∙ ap (λ (es : List Entry). l.count ∷ flat entry_numbers es) parts
-      ∙ ap (λ (ns : List ℕ). l.count ∷ ns) (flat_append entry_numbers (take k l.entries) (own ∷ drop (suc k) l.entries)) in
-      let split : drop (1 + 6 * k) (numbers_of l) ≡ entry_numbers own ++ rest = ap (drop (1 + 6 * k)) all ∙ drop_at seen (entry_numbers own ++ rest) (1 + 6 * k) long in
-      record {
-        upto = omega arith;
-        ready = gave.ready;
-        puts = rw (← rows_more entry k, ← numbers) (puts_append so.puts (gave.puts (numbers_of l) seen rest long refl split));
-      }
-
-  -- All of them.
-  pub putting_all : 8 ≤ k → Puts 232 (numbers_of l) (rows_from entry 0 8) (l.count ∷ []) xs b (numbers_of l) ys c
-  putting_all last =
-      let all : k ≡ 8 = omega (arith, so.upto) in
-      let same : take 8 l.entries ≡ l.entries = take_all 8 l.entries (omega arith) in
-      let rows : rows_from entry 0 k ≡ rows_from entry 0 8 = ap (rows_from entry 0) all in
-      let numbers : l.count ∷ flat entry_numbers (take k l.entries) ≡ numbers_of l = rw (all, same) (sym (numbers_flat l eight)) in
-      rw (rows, numbers) at so.puts

@@ -1,18 +1,18 @@
--- Entries of a list one after the other: their rows and their numbers, of either list, and a loop that takes them all, the special
--- event list's.
+-- Entries of a list one after the other: their rows and their numbers, of either list, a loop that takes them all, the special
+-- event list's, and one that puts them all.
 use Prim.Native.Nat.{ℕ, zero, suc, ◌+◌, ◌*◌, ◌≤◌, ◌<◌}
 use mathlib.Core.List.{List, [], ◌∷◌, ◌++◌, append-nil, append_assoc}
 use mathlib.Core.Path.{◌≡◌, refl, sym, ap, ◌∙◌}
 use native.Mathlib.Omega.{arith}
 use native.Mathlib.Numerals.{add-one}
 use lib.ListN.{length, get_or, set, take, drop, length-append, length-set}
-use lib.Seq.{length-take-le, take_all, take-suc, take-suc-set, take_at, drop_at, drop-drop}
+use lib.Seq.{length-take-le, take_all, split_at, take-suc, take-suc-set, take_at, drop_at, drop-drop}
 use Rattle.rows.specs.Row.{Row}
-use Rattle.rows.specs.Inner.Step.{Ready}
-use Rattle.rows.specs.Inner.Line.{Takes}
+use Rattle.rows.specs.Inner.Step.{Ready, Drafted}
+use Rattle.rows.specs.Inner.Line.{Takes, Puts}
 use Rattle.rows.specs.Inner.Standing.{Standing}
-use Rattle.rows.proofs.Running.{takes_append}
-use Rattle.lists.specs.Inner.Steps.{EntryTook}
+use Rattle.rows.proofs.Running.{takes_append, puts_append}
+use Rattle.lists.specs.Inner.Steps.{EntryTook, EntryGave}
 
 -- The rows of m entries, from entry k on.
 abbrev pub rows_from : (ℕ → List Row) → ℕ → ℕ → List Row
@@ -103,3 +103,38 @@ module _ {E : Type 0} {entry : ℕ → List Row} {numbers : E → List ℕ} {wor
   -- All of them.
   pub taking_all : k ≡ length es → Takes words 232 (rows_from entry 0 (length es)) (count ∷ []) b (count ∷ flat numbers es) c
   taking_all last = rw (take_all k es (omega arith), last) at so.takes
+
+-- What a loop that puts every entry has come to before entry k, from the count, the draft xs and the cursor b on.
+pub record Putting {E : Type 0} (entry : ℕ → List Row) (numbers : E → List ℕ) (count : ℕ) (es : List E) (xs : List ℕ) (b : Standing) (ys : List ℕ) (c : Standing) (k : ℕ) : Type 0 where
+  pub upto : k ≤ length es
+  pub ready : Drafted ys 232 c
+  pub puts : Puts 232 (count ∷ flat numbers es) (rows_from entry 0 k) (count ∷ []) xs b (count ∷ flat numbers (take k es)) ys c
+
+module _ {E : Type 0} {entry : ℕ → List Row} {numbers : E → List ℕ} {count : ℕ} {es : List E} {xs : List ℕ} {b : Standing} {ys : List ℕ} {c : Standing} {k : ℕ} (so : Putting entry numbers count es xs b ys c k) where
+  pub putting_more : (size : ℕ) → ((e : E) → length (numbers e) ≡ size) → (d : E) (zs : List ℕ) (e : Standing)
+      → k < length es
+      → EntryGave ys zs (entry k) (1 + size * k) count c (numbers (get_or es k d)) e
+      → Putting entry numbers count es xs b zs e (k + 1)
+  putting_more size sized d zs e more gave =
+      let own : E = get_or es k d in
+      let seen : List ℕ = count ∷ flat numbers (take k es) in
+      let rest : List ℕ = flat numbers (drop (suc k) es) in
+      let long : length seen ≡ 1 + size * k = seen_long numbers size sized count es k so.upto in
+      let next : take (k + 1) es ≡ take k es ++ (own ∷ []) = rw (add-one k) (take-suc es k d more) in
+      let through = seen_more numbers count (take k es) (take (k + 1) es) own next in
+      let parts : es ≡ take k es ++ (own ∷ drop (suc k) es) = split_at es k d more in
+      let all : count ∷ flat numbers es ≡ seen ++ (numbers own ++ rest) =
+      ap (λ (ds : List E). count ∷ flat numbers ds) parts
+      ∙ ap (λ (ns : List ℕ). count ∷ ns) (flat_append numbers (take k es) (own ∷ drop (suc k) es)) in
+      let split : drop (1 + size * k) (count ∷ flat numbers es) ≡ numbers own ++ rest = ap (drop (1 + size * k)) all ∙ drop_at seen (numbers own ++ rest) (1 + size * k) long in
+      record {
+        upto = omega arith;
+        ready = gave.ready;
+        puts = rw (← rows_more entry k, ← through) (puts_append so.puts (gave.puts (count ∷ flat numbers es) seen rest long refl split));
+      }
+
+  -- All of them.
+  pub putting_all : length es ≤ k → Puts 232 (count ∷ flat numbers es) (rows_from entry 0 (length es)) (count ∷ []) xs b (count ∷ flat numbers es) ys c
+  putting_all last =
+      let all : k ≡ length es = omega (arith, so.upto) in
+      rw (take_all k es (omega arith), all) at so.puts

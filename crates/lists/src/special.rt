@@ -225,7 +225,6 @@ fn put_list(draft: &mut [u64], list: SpecialList) -> Cursor
 {
     let most = SpecialList::MOST;
     let count = list.count;
-    let es = list.entries;
     let head = put::at_most(
         draft,
         BITS,
@@ -235,8 +234,9 @@ fn put_list(draft: &mut [u64], list: SpecialList) -> Cursor
         most,
         count,
     );
-    let first = put_entry(draft, head, count, 0, es[0]);
-    let second = put_entry(draft, first, count, 1, es[1]);
-    let third = put_entry(draft, second, count, 2, es[2]);
-    put_entry(draft, third, count, 3, es[3])
+    let mut c = head;
+    for (k, entry) in list.entries.iter().enumerate() {
+        c = put_entry(draft, c, count, k as u32, *entry);
+    }
+    c
 }

@@ -1,28 +1,19 @@
-use Rattle.rows.specs.Inner.Line.{taken, ◌▸◌}
-use Rattle.rows.specs.Table.Holder.{holder}
+use mathlib.Core.Path.{refl}
+use native.Mathlib.Omega.{arith}
+use Rattle.rows.specs.Inner.Line.{taken}
+use Rattle.holder.proofs.Profiles.{flat_four, taking_more, taking_all}
+use borrow.Author.Rules.{rules}
 use Rattle.holder.proofs.take_profiles.Goals as goal
 
+pub loop-k-init : goal.loop-k-init
+loop-k-init c = (refl, record { upto = omega arith; four = search rules; ready = c.requires; takes = taken })
+
+pub loop-k-preserved : goal.loop-k-preserved
+loop-k-preserved c =
+    let (kept, so) = c.loop-k.invariant in
+    (kept, taking_more so _ _ _ refl refl (omega arith) c.take_profile-taken.ensures)
+
 pub returns : goal.returns
-unfolding holder
 returns c =
-    record {
-      takes =
-          c.take_profile-p1.ensures.bitmap
-          ▸ c.take_profile-p1.ensures.network
-          ▸ c.take_profile-p1.ensures.number
-          ▸ c.take_profile-p1.ensures.date
-          ▸ c.take_profile-p2.ensures.bitmap
-          ▸ c.take_profile-p2.ensures.network
-          ▸ c.take_profile-p2.ensures.number
-          ▸ c.take_profile-p2.ensures.date
-          ▸ c.take_profile-p3.ensures.bitmap
-          ▸ c.take_profile-p3.ensures.network
-          ▸ c.take_profile-p3.ensures.number
-          ▸ c.take_profile-p3.ensures.date
-          ▸ c.take_profile-p4.ensures.bitmap
-          ▸ c.take_profile-p4.ensures.network
-          ▸ c.take_profile-p4.ensures.number
-          ▸ c.take_profile-p4.ensures.date
-          ▸ taken;
-      ready = c.take_profile-p4.ensures.date.ready;
-    }
+    let (kept, so) = c.loop-k.invariant in
+    record { takes = rw (flat_four _ so.four) at (taking_all so kept (omega arith)); ready = so.ready }

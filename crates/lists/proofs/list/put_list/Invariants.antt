@@ -1,7 +1,8 @@
 use Rattle.rows.specs.Inner.Standing.{stand}
-use Rattle.lists.specs.List.{no_tally}
-use Rattle.lists.proofs.Lines.{Putting}
+use Rattle.rows.specs.Table.BestContracts.{entry}
+use Rattle.lists.specs.List.{entry_numbers}
+use Rattle.lists.proofs.Rowing.{Putting}
 use Rattle.lists.proofs.list.put_list.Given as goal
 
 abbrev pub invariant-loop-k : goal.invariant-loop-k
-invariant-loop-k l = Putting (record { count = l.count; entries = l.entry-items; tally = no_tally }) l.initial.draft (stand l.initial.c) l.draft (stand l.c) l.k
+invariant-loop-k l = Putting entry entry_numbers l.count l.entry-items l.initial.draft (stand l.initial.c) l.draft (stand l.c) l.k

@@ -1,21 +1,23 @@
-use mathlib.Core.Path.{refl, ◌∙◌}
+use mathlib.Core.Path.{◌≡◌, refl}
+use native.Mathlib.Omega.{arith}
+use lib.ListN.{length}
 use Rattle.rows.specs.Table.Special.{special_list}
-use Rattle.rows.specs.Inner.Line.{◌◂◌}
-use Rattle.rows.proofs.Running.{puts_append}
+use Rattle.rows.specs.Inner.Line.{given, ◌◂◌}
+use Rattle.lists.proofs.Listing.{length_of_map}
+use Rattle.lists.proofs.Rowing.{putting_more, putting_all}
+use Rattle.lists.proofs.special.Laws.{numbers_flat}
+use borrow.Author.Rules.{rules}
 use Rattle.lists.proofs.special.put_list.Goals as goal
 
-pub shape_of-draft : goal.shape_of-draft
-shape_of-draft c = c.put_entry.auto.draft
-    ∙ c.put_entry-third.auto.draft
-    ∙ c.put_entry-second.auto.draft
-    ∙ c.put_entry-first.auto.draft
-    ∙ c.at_most-head.auto.draft
+pub loop-k-init : goal.loop-k-init
+loop-k-init c = record { upto = omega arith; ready = c.at_most-head.ensures.ready; puts = given }
+
+pub loop-k-preserved : goal.loop-k-preserved
+loop-k-preserved c = putting_more c.loop-k.invariant 5 (λ e. refl) _ _ _ (omega arith) c.put_entry-c.ensures
 
 pub returns : goal.returns
 unfolding special_list
 returns c =
-    c.at_most-head.ensures
-    ◂ puts_append (c.put_entry-first.ensures.puts _ _ _ refl refl refl)
-    (puts_append (c.put_entry-second.ensures.puts _ _ _ refl refl refl)
-    (puts_append (c.put_entry-third.ensures.puts _ _ _ refl refl refl)
-    (c.put_entry.ensures.puts _ _ _ refl refl refl)))
+    let l = c.args.list in
+    let four : length l.entries ≡ 4 = search (rules, length_of_map) in
+    c.at_most-head.ensures ◂ (rw (four, ← numbers_flat l four) at (putting_all c.loop-k.invariant (omega arith)))
