@@ -130,7 +130,8 @@ pub fn number(words: &[u64], at: u32, w: u32) -> u32
     (((word << (at % 32)) >> 32) >> (32 - w)) as u32
 }
 
-// The place of the first one from bit at on, or the end.
+// The place of the first one from bit at on, or the end. (No Option, here and in first_one: the margin's take and put go on from that
+// place, or compare it with the end.)
 pub fn next_one(words: &[u64], end: u32, at: u32) -> u32
     requires { (at ≤ end) × ((end / 32 < length words.now) × (end < 65536)) }
     ensures { (bs : List Bool) → length bs ≡ end → words.now ≡ cut 32 64 (length words.now) bs → result ≡ at + leading (drop at bs) }
