@@ -21,7 +21,7 @@ use Rattle.holder.specs.Inner.Steps.{block, ProfileTook, ProfileGave}
 use Rattle.holder.specs.declared.Holder.{Holder}
 use Rattle.holder.specs.declared.Profile.{Profile}
 
--- The rows of profile k, in the table behind those of the profiles before it.
+-- The rows of profile k, as the table has them.
 abbrev profile : ℕ → List Row
 profile k =
     let slot : ℕ = 82 + 4 * k in
@@ -57,7 +57,7 @@ pub flat_four : (ps : List Profile) → length ps ≡ 4
     ++ profile_numbers (get_or ps 3 absent)))
 flat_four ps four = ap flat (sym (named_all absent 4 ps four))
 
--- Of its takes one behind the bitmap, after some numbers.
+-- The take of an element, some numbers after the profile's bitmap.
 element_takes : {words : List ℕ} {end w j n b : ℕ} {rule : Rule} {rs : List Row} {c : Standing} {vs : List ℕ} {e : Standing} {all : List ℕ} {d : Standing} (seen some : List ℕ)
     → length seen ≡ n
     → Took words end c (Bit b j) (w ∷ []) rule vs e
@@ -106,12 +106,12 @@ module _ {words : List ℕ} {end : ℕ} {front : List ℕ} {b : Standing} {ps : 
         takes = rw (← rows_more k more, ← numbers) (takes_append so.takes (profile_takes seen all same took));
       }
 
-  -- All of them.
-  pub taking_all : 4 ≤ k → Takes words end (block 12 16) front b (front ++ flat ps) c
-  taking_all last =
+  -- All of them, behind the same numbers before them.
+  pub taking_all : {kept : List ℕ} → kept ≡ front → 4 ≤ k → Takes words end (block 12 16) front b (kept ++ flat ps) c
+  taking_all same last =
       let all : k ≡ 4 = omega (arith, so.upto) in
       let whole : take 4 ps ≡ ps = take_all 4 ps (omega (arith, so.four)) in
-      rw (all, whole) at so.takes
+      rw same (rw (all, whole) at so.takes)
 
 profile_puts : {room : ℕ} {xs : List ℕ} {c : Standing} {ys : List ℕ} {d : Standing} (h : Holder) (k : ℕ) → k < 4
     → ProfileGave xs ys room c h.profile_count k (get_or h.profiles k absent) d

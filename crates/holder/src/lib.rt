@@ -338,14 +338,12 @@ fn take_profiles(words: &[u64], end: u32, fields: Part<Holder>) -> Part<Holder>
 {
     let mut h = fields.value;
     let count = h.profile_count;
-    let mut profiles = [Profile::NONE; 4];
     let mut last = fields.last;
     for k in 0..4 {
         let taken = take_profile(words, end, last, count, k as u32);
         last = taken.last;
-        profiles[k] = taken.value;
+        h.profiles[k] = taken.value;
     }
-    h.profiles = profiles;
     Part { value: h, last }
 }
 
