@@ -1,6 +1,6 @@
 // The second reader, for type approval: it takes one bit after another, and knows the layouts as rows of widths. Each reading answers
 // what the working reader answers.
-#![tactic(auto)]
+#![tactic(auto, unfolding(records::specs::Answer::read_record, records::specs::Answer::read_area, lists::specs::Listing::read_list), using(crate::proofs::Tables::environment_fits, crate::proofs::Tables::event_fits, crate::proofs::Tables::carnet_fits, crate::proofs::Tables::urban_fits, crate::proofs::Tables::special_fits, crate::proofs::Tables::special_slots))]
 
 ghost use Rattle.std.specs.Prelude.{◌≡◌, length};
 ghost use Rattle.rows.specs.Walk.{slots};
@@ -31,7 +31,6 @@ pub mod run;
 pub mod state;
 
 // The Environment in a lent record.
-#[tactic(auto, unfolding(records::specs::Answer::read_record), using(crate::proofs::Tables::environment_fits))]
 pub fn environment(bytes: &[u8]) -> Result<Environment, Refusal>
     ensures { environment_told (heard result) ≡ environment_told (environment_read bytes.now) }
 {
@@ -43,7 +42,6 @@ pub fn environment(bytes: &[u8]) -> Result<Environment, Refusal>
 }
 
 // The Event in a lent record.
-#[tactic(auto, unfolding(records::specs::Answer::read_record), using(crate::proofs::Tables::event_fits))]
 pub fn event(bytes: &[u8]) -> Result<Event, Refusal>
     ensures { event_told (heard result) ≡ event_told (event_read bytes.now) }
 {
@@ -79,7 +77,6 @@ pub fn contract(bytes: &[u8], kind: u32) -> Result<Contract, Refusal>
     Ok(Contract::of(kind, numbers, Margin::of(margin)))
 }
 
-#[tactic(auto, using(crate::proofs::Tables::carnet_fits, crate::proofs::Tables::urban_fits))]
 fn of_kind(bytes: &[u8], kind: u32) -> Result<([u32; 45], [u64; 4]), Refusal>
     requires { length bytes.now ≡ 29 }
     ensures { said (slots (table_of kind)) result ≡ read_with 4 (table_of kind) bytes.now }
@@ -91,7 +88,6 @@ fn of_kind(bytes: &[u8], kind: u32) -> Result<([u32; 45], [u64; 4]), Refusal>
 }
 
 // The contract list in a lent record, on a card with n contract records, the first c of them with counters.
-#[tactic(auto, unfolding(lists::specs::Listing::read_list))]
 pub fn list(bytes: &[u8], n: u32, c: u32) -> Result<ContractList, Refusal>
     ensures { list_answer result ≡ list_read n c bytes.now }
 {
@@ -106,7 +102,6 @@ pub fn list(bytes: &[u8], n: u32, c: u32) -> Result<ContractList, Refusal>
 }
 
 // The special event list in a lent record, on a card with s special event records.
-#[tactic(auto, unfolding(lists::specs::Listing::read_list), using(crate::proofs::Tables::special_fits, crate::proofs::Tables::special_slots))]
 pub fn special(bytes: &[u8], s: u32) -> Result<SpecialList, Refusal>
     ensures { special_answer result ≡ special_read s bytes.now }
 {

@@ -1,14 +1,9 @@
-use Rattle.std.proofs.Common.{◌≡◌, true, false, length, sym, ◌∙◌, rules, Err, Ok, arith}
+use Rattle.std.proofs.Common.{◌≡◌, true, length, sym, ◌∙◌, rules, Err, Ok, arith}
 use Rattle.records.specs.Answer.{area_length}
-use Rattle.records.proofs.Answering.{area_short, area_room}
+use Rattle.records.proofs.Answering.{area_room}
 use Rattle.lab.proofs.Answers.{area_answers}
 use Rattle.lab.proofs.Tables.{holder_fits, holder_slots}
 use Rattle.lab.proofs.holder.Goals as goal
-
-pub returns-then-not-is_area : goal.returns-then-not-is_area
-returns-then-not-is_area c =
-    let short : area_length (length c.args.bytes.now) ≡ false = sym c.is_area.ensures ∙ c.if-not-is_area.true in
-    area_short _ _ _ _ short
 
 pub with_margin-requires : goal.with_margin-requires
 with_margin-requires c =
