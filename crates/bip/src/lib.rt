@@ -42,6 +42,7 @@ impl Weekdays {
         }
     }
 
+    // The byte of those days. Not a From either.
     fn byte(self) -> u32
         ensures { result ≡ byte_of self }
     {

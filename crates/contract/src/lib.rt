@@ -322,6 +322,7 @@ pub fn read(bytes: &[u8], kind: u32) -> Result<Contract, Refusal>
     bits::words(&bytes[..], &mut words);
     let front = take_head(&words);
     let head = front.value;
+    // Each case makes its contract: made at one place, of whichever data there are, it took 42h 469 instructions, not 385.
     let last = front.last;
     if !follow(head.bitmap) {
         Refusal::met(last)?;

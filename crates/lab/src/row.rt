@@ -1,5 +1,6 @@
 // A row of a layout is one number, the sum of what is said of its field: the width, in bits, and what follows here. Nothing more is
-// a field of one box that is always there and takes every number of its width.
+// a field of one box that is always there and takes every number of its width. No struct of its parts: over tables of such the checker
+// takes minutes (docs/DECISIONS.md, Q-6), and docs/CONTRACTS.md promises the functions that take a row apart.
 #![tactic(auto, unfolding(crate::specs::Layout::boxes_of, crate::specs::Layout::cond_of, crate::specs::Layout::rule_of), using(rows::proofs::Stepping::total_same, crate::proofs::Rows::some_width, crate::proofs::Rows::box_even))]
 
 ghost use Rattle.std.specs.Prelude.{◌≡◌, ◌^◌, ◌<◌, length, drop, slice_index};

@@ -6,7 +6,7 @@ pub const BYTES: usize = 4096;
 
 pub const LARGEST_LETTER: u32 = 255;
 
-// The words that are left of a line, each with the space before it.
+// The words that are left of a line, each with the space before it. (Bare of Debug and PartialEq: it would be no plainer for them.)
 #[derive(Clone, Copy)]
 pub struct Words<'a> {
     rest: &'a [u8],

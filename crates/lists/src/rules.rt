@@ -13,7 +13,7 @@ pub const COUNT_BITS: u32 = 4;
 #[derive(Clone, Copy, Debug, PartialEq, Eq)]
 pub struct Judged {
     pub used: u32, // their pointers, bit pointer - 1
-    // the number, from 1, of the first entry that does not keep the rule, or 0; as an Option it takes list::read 842 instructions, not 832
+    // the number, from 1, of the first entry that does not keep the rule, or 0: as an Option it took list::read 10 instructions more, of 832
     fault: u32,
 }
 

@@ -30,7 +30,7 @@ pub struct Order {
     pub day: u32,
     pub minute: u32,
     pub hours: u32,
-    // the entry; its network is zero where it has none, and no Option: `network_fits` and `new_entry` say so of both fields
+    // the entry; its network is zero where it has none, and no Option: any other number there is 11, which an Option could not say
     pub key: u32,
     pub kind: u32,
     pub priority: u32,
@@ -40,7 +40,8 @@ pub struct Order {
     pub counter: bool,
 }
 
-// What is lent and only read: special event list, journal, special event records, new contract record, a bit for each event code.
+// What is lent and only read: special event list, journal, special event records, new contract record, a bit for each event code. (Bare of
+// Debug and PartialEq: it would be no plainer for them.)
 #[derive(Clone, Copy)]
 struct Lent<'a> {
     special: &'a [u8],

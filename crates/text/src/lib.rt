@@ -4,7 +4,7 @@
 ghost use Rattle.std.specs.Prelude.{◌≡◌, Bool, true, ℕ, ◌+◌, ◌*◌, ◌≤◌, length};
 ghost use Rattle.text.specs.Hex.{choose, worth, all_digits, spelt, spells};
 
-// What a digit 0-9 A-F is worth; 16, not a None, for what is none, as `worth` has it.
+// What a digit 0-9 A-F is worth; 16 for what is none, as `worth` has it: a None would be no plainer, its clause would make it 16 again.
 fn digit(b: u8) -> u8
     ensures { result ≡ worth b }
 {
