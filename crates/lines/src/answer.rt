@@ -36,20 +36,27 @@ impl Answer {
     }
 
     pub fn number(&mut self, number: u32) {
-        let _ = write!(self, " {number}");
+        self.numbers(&[number]);
     }
 
+    // Here and below the end is a local while letters are put: by `write!` for each number and each byte a Holder took twice the time.
     pub fn numbers(&mut self, numbers: &[u32]) {
+        let mut end = self.end;
         for n in numbers {
-            self.number(*n);
+            let word = put(&mut self.letters, end, b' ');
+            end = put_decimal(&mut self.letters, word, *n);
         }
+        self.end = end.min(MOST);
     }
 
     pub fn bytes(&mut self, bytes: &[u8]) {
         self.text(if bytes.is_empty() { b" -" } else { b" " });
+        let mut end = self.end;
         for byte in bytes {
-            let _ = write!(self, "{byte:02X}");
+            let low = put(&mut self.letters, end, digit(byte / 16));
+            end = put(&mut self.letters, low, digit(byte % 16));
         }
+        self.end = end.min(MOST);
     }
 
     // The beginning of every answer: three zeros, or why it is refused, the place and the field. Gives back the value.
@@ -72,6 +79,33 @@ impl Answer {
         self.told(answer);
         self.bytes(bytes);
     }
+}
+
+// Puts a letter where there is room for it, and answers the place behind.
+fn put(letters: &mut [u8], end: usize, letter: u8) -> usize {
+    match letters.get_mut(end) {
+        Some(place) => {
+            *place = letter;
+            end + 1
+        }
+        None => end,
+    }
+}
+
+// All digits but the last, and the last.
+fn put_decimal(letters: &mut [u8], end: usize, number: u32) -> usize {
+    let last = if 10 <= number {
+        put_decimal(letters, end, number / 10)
+    } else {
+        end
+    };
+    put(letters, last, digit((number % 10) as u8))
+}
+
+// The last digit of a number to the base 16.
+fn digit(n: u8) -> u8 {
+    let digits = b"0123456789ABCDEF";
+    digits[usize::from(n) % 16]
 }
 
 impl fmt::Write for Answer {

@@ -33,8 +33,14 @@ pub fn take_bits<const N: usize>(words: &mut Words, wanted: usize) -> Option<[u6
 
 // The bytes of numbers, eight each.
 pub fn fill(bytes: &mut [u8], bits: &[u64]) {
-    let spelt = bits.iter().flat_map(|eight| eight.to_be_bytes());
-    for (byte, part) in bytes.iter_mut().zip(spelt) {
-        *byte = part;
+    for (part, eight) in bytes.chunks_mut(8).zip(bits) {
+        put_eight(part, *eight);
+    }
+}
+
+// As many of a number's bytes as there is room for, high byte first.
+fn put_eight(part: &mut [u8], eight: u64) {
+    for (byte, own) in part.iter_mut().zip(&eight.to_be_bytes()) {
+        *byte = *own;
     }
 }
