@@ -1,5 +1,5 @@
 -- What the steps of both lists' readers and writers give.
-use Rattle.std.specs.Prelude.{ℕ, List, [], ◌∷◌, ◌++◌, Bool, not, ◌||◌, ◌≡◌, eqb, length, get_or, drop}
+use Rattle.std.specs.Prelude.{ℕ, List, [], ◌∷◌, ◌++◌, Bool, not, ◌||◌, ◌≡◌, eqb, length, get_or, drop, Option, None, Some}
 use Rattle.rows.specs.Row.{Row, pick}
 use Rattle.rows.specs.Inner.Step.{Ready, Took, Drafted}
 use Rattle.rows.specs.Inner.Line.{Takes, Puts}
@@ -10,6 +10,11 @@ use Rattle.rows.specs.declared.Rule.TheVariants.{Any, Tariff}
 -- After all else a cursor stands at the entry at fault, with 6; 0 for none.
 abbrev pub obeyed : Standing → ℕ → Standing
 obeyed c k = pick (eqb c.why 0) (pick (eqb k 0) c (record { at = k; why = 6; field = 0; number = 0 })) c
+
+-- The same of a fault in code, of any number that it may have.
+abbrev pub stopped_at : Standing → Option ℕ → Standing
+stopped_at c None = c
+stopped_at c (Some k) = pick (eqb c.why 0) (record { at = k; why = 6; field = 0; number = 0 }) c
 
 -- And after that at place 0, with 6, where the list's tally is no fresh count.
 abbrev pub tallied : Standing → Bool → Standing

@@ -68,10 +68,10 @@ pub returns-in_err-met-3 : goal.returns-in_err-met-3
 returns-in_err-met-3 c =
     let one = c.in_err-met-3.ensures in
     let is : c.from_residual-in_err-met-3.result ≡ Err c.in_err-met-3.field-0.0 = search rules in
-    rw is (ap no_list one ∙ sofar_denied c.loop-k.invariant (omega arith) _ _ c.end.ensures (c.obeyed-end.ensures _ c.fault.ensures) (met_one _ (stand c.obeyed-end.result) one))
+    rw is (ap no_list one ∙ sofar_denied c.loop-k.invariant (omega arith) _ _ c.end.ensures (c.obeyed-end.ensures.rule _ c.fault.ensures) (met_one _ (stand c.obeyed-end.result) one))
 
 pub tally-list-requires : goal.tally-list-requires
 tally-list-requires c = sofar_ready c.loop-k.invariant
 
 pub returns : goal.returns
-returns c = sofar_read c.loop-k.invariant (omega arith) _ _ c.end.ensures (c.obeyed-end.ensures _ c.fault.ensures) (met_none (stand c.obeyed-end.result) c.in_ok-met-3.ensures) _ c.tally-list.ensures
+returns c = sofar_read c.loop-k.invariant (omega arith) _ _ c.end.ensures (c.obeyed-end.ensures.rule _ c.fault.ensures) (met_none (stand c.obeyed-end.result) c.in_ok-met-3.ensures) _ c.tally-list.ensures

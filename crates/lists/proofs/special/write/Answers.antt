@@ -18,6 +18,6 @@ returns-then-s-gt-MOST c = list_unwritten_outside (special_fault c.args.s) _ _ _
 pub returns : goal.returns
 unfolding special_list
 returns c =
-    let last = c.obeyed-last.ensures _ c.at_fault.ensures in
+    let last = c.obeyed-last.ensures.rule _ c.at_fault.ensures in
     rw c.met.ensures
     (list_written (special_fault c.args.s) _ special_list _ _ _ _ _ _ _ (omega (arith, special_rows)) c.if-bytes-ne-BYTES.false (le-ltb _ _ c.if-s-gt-MOST.false) refl refl c.put_list-end.ensures last c.end.ensures)
