@@ -81,6 +81,7 @@ pub record Card (o : Order) (list file : List ℕ) (lent : Lent) : Type 0 where
   pub most : o.n ≤ 8
   pub counters : o.c ≤ o.n
   pub file_long : length file ≡ 29 * o.n
+  pub records_long : length lent.records ≡ 29 * o.s
   pub new_long : length lent.new ≡ 29
   pub list_long : length list ≡ 29
   pub entry_fits_law : entry_fits o ≡ true
@@ -110,6 +111,7 @@ module _ (o : Order) (list file : List ℕ) (lent : Lent) where
         most = leb-true _ _ most_ok;
         counters = leb-true _ _ counters_ok;
         file_long = eqb-true _ _ file_ok;
+        records_long = eqb-true _ _ records_ok;
         new_long = eqb-true _ _ new_ok;
         list_long = eqb-true _ _ list_ok;
         entry_fits_law = entry_ok;

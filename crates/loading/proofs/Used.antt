@@ -4,6 +4,7 @@ use mathlib.Core.Path.{◌≡◌, refl, ap, ◌∙◌}
 use mathlib.Core.List.{List, [], ◌∷◌}
 use mathlib.Core.Bool.{Bool, true, false, not, ◌&&◌, ◌||◌}
 use native.Mathlib.Omega.{arith}
+use native.Mathlib.Numerals.{add-one}
 use lib.Dec.{eqb, leb}
 use borrow.Author.Tests.{eq-eqb, ne_eqb, leb-true, le-leb, lt-leb}
 use Rattle.bits.specs.Bits.{bit, odd}
@@ -15,7 +16,7 @@ use Rattle.lists.specs.declared.tally.Positions.{Positions}
 use Rattle.lists.specs.declared.tally.Tally.{Tally}
 use Rattle.lists.proofs.Tallying.{used_bit}
 use Rattle.loading.specs.Blocking.{some}
-use Rattle.loading.specs.Place.{within, lowest_free, first_erasable, or_else}
+use Rattle.loading.specs.Place.{within, lowest_free, first_erasable, or_else, counter_place, plain_place}
 use Rattle.loading.specs.Inner.Tallied.{Shows, lowest_zero}
 
 -- The code's test of a bit.
@@ -93,3 +94,11 @@ module _ (es : List Entry) (n c : ℕ) (t : Tally) (even : t ≡ tally_of c es) 
         fresh = ap (λ (x : Tally). x.plain) even;
         covers = λ q low high. let past : c < q = omega arith in rw (lt-leb q c past);
       }
+
+-- The places of both kinds.
+module _ (es : List Entry) (blocked : ℕ → Bool) (n c r : ℕ) (h : c ≤ n) where
+  pub counter_place_law : r ≡ or_else (lowest_free es (c + 1 - 1) 1) (first_erasable blocked 1 c es) → r ≡ counter_place blocked c es
+  counter_place_law e = let all : c + 1 - 1 ≡ c = omega arith in e ∙ rw all
+
+  pub plain_place_law : r ≡ or_else (lowest_free es (n + 1 - (c + 1)) (c + 1)) (first_erasable blocked (c + 1) n es) → r ≡ plain_place blocked n c es
+  plain_place_law e = let all : n + 1 - (c + 1) ≡ n - c = omega arith in e ∙ rw (all, add-one c)
