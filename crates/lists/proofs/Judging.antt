@@ -9,12 +9,14 @@ use lib.Dec.{eqb, leb}
 use lib.ListN.{length, get_or, take, length-append, length-map}
 use lib.Seq.{length-take-le, take-suc}
 use borrow.Author.Tests.{eq-eqb, ne_eqb, leb-true}
-use Rattle.std.proofs.Common.{Some, None}
+use Rattle.std.proofs.Common.{Option, Some, None}
 use Rattle.bits.specs.Bits.{odd}
 use Rattle.rows.specs.Row.{pick, among}
 use Rattle.rows.proofs.Margins.{both}
+use Rattle.rows.specs.Inner.Standing.{Standing}
 use Rattle.lists.specs.Rules.{keeps, fault_after, first_at_fault}
 use Rattle.lists.specs.Inner.Judging.{optional, Judges}
+use Rattle.lists.specs.Inner.Steps.{obeyed, stopped_at}
 use Rattle.lists.specs.declared.rules.Judged.{Judged}
 use Rattle.lists.proofs.Masks.{mask_bit, mask_more}
 
@@ -59,6 +61,18 @@ optional_none (suc k) e = cc
 pub optional_some : (k m : ℕ) → Some m ≡ optional k → (m ≡ k) × (k ≡ 0 → ⊥)
 optional_some zero m e = absurd (cc)
 optional_some (suc k) m e = (cc, λ z. omega arith)
+
+-- A cursor after a fault in code is the one after that fault's number.
+pub obeyed_rule : (c : Standing) (k : ℕ) {d : Standing} {fault : Option ℕ} → d ≡ stopped_at c fault → fault ≡ optional k → d ≡ obeyed c k
+obeyed_rule c k {d} {fault} e same = e ∙ go fault same
+  where
+    either : (b : Bool) → c ≡ pick b c c
+    either true = refl
+    either false = refl
+
+    go : (f : Option ℕ) → f ≡ optional k → stopped_at c f ≡ obeyed c k
+    go None s = rw (eq-eqb k 0 (optional_none k s)) (either (eqb c.why 0))
+    go (Some m) s = let (own, some) = optional_some k m s in rw (own, ne_eqb k 0 some)
 
 -- Before the first entry.
 pub judges_none : (full limit : ℕ) → Judges full limit [] [] (record { used = 0; fault = 0 })

@@ -1,7 +1,7 @@
 // The rule of both lists: every element but the network present, pointers distinct and within their limit, else 6.
 ghost use Rattle.std.specs.Prelude.{◌≡◌, List, [], ◌∷◌, ◌++◌, ℕ, suc, ◌≤◌, length};
 ghost use Rattle.rows.specs.Inner.Standing.{stand};
-ghost use Rattle.lists.specs.Inner.Steps.{obeyed, stopped_at, tallied};
+ghost use Rattle.lists.specs.Inner.Steps.{stopped_at, tallied};
 ghost use Rattle.lists.specs.Inner.Judging.{optional, Judges};
 
 use rows::{Cursor, Why};
@@ -56,8 +56,7 @@ impl Judged {
 
 // The cursor after the rule: 6 at the entry at fault, where nothing else was refused.
 pub fn obeyed(c: Cursor, fault: Option<u32>) -> Cursor
-    ensures rule { (k : ℕ) → fault ≡ optional k → stand result ≡ obeyed (stand c) k }
-    ensures any { stand result ≡ stopped_at (stand c) fault }
+    ensures { stand result ≡ stopped_at (stand c) fault }
 {
     if c.is_refused() {
         return c;

@@ -7,6 +7,7 @@ use Rattle.records.proofs.Answering.{eight_words, met_none, met_one}
 use Rattle.lists.specs.List.{list_fault, no_list}
 use Rattle.lists.proofs.Listing.{list_short, list_outside}
 use Rattle.lists.proofs.Lines.{sofar_start, sofar_few, sofar_limit, sofar_ready, sofar_more, sofar_refused, sofar_read, sofar_denied, line_refused}
+use Rattle.lists.proofs.Judging.{obeyed_rule}
 use Rattle.lists.proofs.list.read.Goals as goal
 
 pub returns-then-bytes-ne-BYTES : goal.returns-then-bytes-ne-BYTES
@@ -68,10 +69,10 @@ pub returns-in_err-met-3 : goal.returns-in_err-met-3
 returns-in_err-met-3 c =
     let one = c.in_err-met-3.ensures in
     let is : c.from_residual-in_err-met-3.result ≡ Err c.in_err-met-3.field-0.0 = search rules in
-    rw is (ap no_list one ∙ sofar_denied c.loop-k.invariant (omega arith) _ _ c.end.ensures (c.obeyed-end.ensures.rule _ c.fault.ensures) (met_one _ (stand c.obeyed-end.result) one))
+    rw is (ap no_list one ∙ sofar_denied c.loop-k.invariant (omega arith) _ _ c.end.ensures (obeyed_rule _ _ c.obeyed-end.ensures c.fault.ensures) (met_one _ (stand c.obeyed-end.result) one))
 
 pub tally-list-requires : goal.tally-list-requires
 tally-list-requires c = sofar_ready c.loop-k.invariant
 
 pub returns : goal.returns
-returns c = sofar_read c.loop-k.invariant (omega arith) _ _ c.end.ensures (c.obeyed-end.ensures.rule _ c.fault.ensures) (met_none (stand c.obeyed-end.result) c.in_ok-met-3.ensures) _ c.tally-list.ensures
+returns c = sofar_read c.loop-k.invariant (omega arith) _ _ c.end.ensures (obeyed_rule _ _ c.obeyed-end.ensures c.fault.ensures) (met_none (stand c.obeyed-end.result) c.in_ok-met-3.ensures) _ c.tally-list.ensures
